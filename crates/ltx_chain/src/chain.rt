@@ -1,0 +1,155 @@
+//! The versions of one key, for the store.
+//!
+//! A mark is a number of commits: a version's mark counts the commits up to and with the one that
+//! wrote it. The versions stand in rising order of their marks, and who looks at a mark sees the
+//! last version whose mark is at most that. Room is made before a commit, so that the commit
+//! itself takes no memory.
+
+ghost use Rattle.std.specs.Prelude.{◌≡◌, ◌+◌, ◌≤◌, ◌<◌, ℕ, [], ◌∷◌, ◌++◌, length, take, filter, OnOk, IfOk, option_copied};
+ghost use Rattle.ltx_chain.specs.Versions.{AreBelow, IsRising, is_at_most, latest, visible, kept_from};
+
+use ltx_model::bytes::Value;
+use ltx_model::memory::NoMemory;
+use ltx_model::numbers::Tx;
+use std::alloc::Global;
+use std::marker::Model;
+
+/// What a commit made of a key: the value that it put, or none where it deleted the key.
+#[derive(Debug, Drop)]
+pub struct Version {
+    pub writer: Tx,
+    pub mark: u64,
+    pub put: Option<Value>,
+}
+
+/// The versions of a key.
+#[derive(Debug, Drop)]
+pub struct Chain {
+    versions: Vec<Version>,
+}
+
+// Clauses see the versions, and how many more can be installed without taking memory.
+impl Model for Chain {
+    ghost use Rattle.std.specs.Prelude.{vec_capacity, ◌-◌, length};
+    ghost use Rattle.ltx_chain.specs.Versions.{Versions, IsRising};
+
+    ghost Value = { Versions };
+
+    ghost view = { λ c. record { items = c.versions.items; room = vec_capacity c.versions - length c.versions.items } };
+
+    ghost invariant = { λ c. IsRising c.versions.items };
+}
+
+impl Chain {
+    /// A chain without versions, which takes no memory.
+    pub fn new(alloc: Global) -> Chain
+        ensures items { result.items ≡ [] }
+        ensures room { result.room ≡ 0 }
+    {
+        Chain {
+            versions: Vec::new(alloc),
+        }
+    }
+
+    /// Makes room for a version. The versions stay, whatever is answered.
+    pub fn reserve_one(&mut self) -> Result<(), NoMemory>
+        ensures items { self.new.items ≡ self.old.items }
+        ensures made { OnOk result (0 < self.new.room) }
+        ensures kept { self.old.room ≤ self.new.room }
+    {
+        // Most keys keep one version.
+        if self.versions.is_empty() {
+            self.versions.reserve_exact(1)?;
+        } else {
+            self.versions.reserve(1)?;
+        }
+        Ok(())
+    }
+
+    /// Adds a version to those of lower marks, without taking memory.
+    pub fn install(&mut self, version: Version)
+        requires room { 0 < self.old.room }
+        requires above { AreBelow version.mark self.old.items }
+        ensures items { self.new.items ≡ self.old.items ++ version ∷ [] }
+        ensures room { self.new.room + 1 ≡ self.old.room }
+    {
+        self.versions.push_reserved(version);
+    }
+
+    /// The version of the highest mark.
+    pub fn latest(&self) -> Option<&Version>
+        ensures last { option_copied result ≡ latest self.now.items }
+        ensures rising { IsRising self.now.items }
+    {
+        self.versions.last()
+    }
+
+    /// The version that is seen at a mark.
+    pub fn visible(&self, mark: u64) -> Option<&Version>
+        ensures { option_copied result ≡ visible mark self.now.items }
+    {
+        self.versions[..count_seen(&self.versions, mark)].last()
+    }
+
+    /// Drops each version that is seen at no mark from this one on.
+    pub fn prune(&mut self, mark: u64)
+        ensures kept { self.new.items ≡ kept_from mark self.old.items }
+        ensures seen { (m : ℕ) → mark ≤ m → visible m self.new.items ≡ visible m self.old.items }
+        ensures room { self.old.room ≤ self.new.room }
+    {
+        let hidden = count_seen(&self.versions, mark).saturating_sub(1);
+        self.versions.drain(..hidden);
+    }
+}
+
+// How many versions have at most this mark.
+fn count_seen(versions: &[Version], mark: u64) -> usize
+    requires { IsRising versions.now }
+    ensures count { result ≡ length (filter (is_at_most mark) versions.now) }
+    ensures seen { take result versions.now ≡ filter (is_at_most mark) versions.now }
+{
+    versions.partition_point(|version| version.mark <= mark)
+}
+
+#[cfg(test)]
+mod tests {
+    use super::{Chain, Version};
+    use ltx_model::bytes::Value;
+    use ltx_model::numbers::Tx;
+    use std::test::Fail;
+
+    fn put(rt: &HostRuntime, mark: u64) -> Result<Version, Fail>
+        ensures { IfOk result (λ version. version.mark ≡ mark) }
+    {
+        let Some(writer) = Tx::new(mark.saturating_add(1)) else {
+            return Err(Fail::from(mark));
+        };
+        let Ok(value) = Value::from_bytes(Vec::new(rt.alloc())) else {
+            return Err(Fail::from(mark));
+        };
+        Ok(Version {
+            writer,
+            mark,
+            put: Some(value),
+        })
+    }
+
+    fn mark_of(version: Option<&Version>) -> Option<u64> {
+        version.map(|v| v.mark)
+    }
+
+    #[test]
+    fn each_mark_sees_its_version(rt: HostRuntime) -> Result<(), Fail> {
+        let mut chain = Chain::new(rt.alloc());
+        chain.reserve_one()?;
+        chain.install(put(&rt, 0)?);
+        chain.reserve_one()?;
+        chain.install(put(&rt, 5)?);
+        assert_eq!(rt; mark_of(chain.visible(4)), Some(0));
+        assert_eq!(rt; mark_of(chain.latest()), Some(5));
+        chain.prune(5);
+        assert_eq!(rt; mark_of(chain.visible(4)), None);
+        assert_eq!(rt; mark_of(chain.visible(5)), Some(5));
+        Ok(())
+    }
+}

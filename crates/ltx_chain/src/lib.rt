@@ -1,0 +1,4 @@
+//! The versions of a key, each with its mark.
+#![tactic(auto)]
+
+pub mod chain;
