@@ -7,12 +7,16 @@
 mod calls;
 mod disk;
 mod failed;
+mod mem_disk;
+mod mem_sink;
 mod mem_source;
 mod sink;
 mod source;
 
 pub use disk::{Disk, LOG_LIMIT};
 pub use failed::Failed;
+pub use mem_disk::MemDisk;
+pub use mem_sink::MemSink;
 pub use mem_source::MemSource;
 pub use sink::{Sink, write_all};
 pub use source::Source;

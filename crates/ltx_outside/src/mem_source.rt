@@ -1,10 +1,9 @@
 //! A source in memory, for tests and programs without input.
 
-ghost use Rattle.std.specs.Prelude.{◌≡◌, ◌≤◌, ◌<◌, ◌↔◌, ◌++◌, Some, length, take, drop, min, IsErr, IsTrue, IfOk, OnOk, OnErr};
+ghost use Rattle.std.specs.Prelude.{◌≡◌, [], ◌≤◌, ◌<◌, ◌↔◌, ◌++◌, Some, length, take, drop, min, IsErr, IsTrue, IfOk, OnOk, OnErr};
 ghost use Rattle.std.specs.Io.{ReadsAtMost};
 ghost use Rattle.std.specs.Io.KnownBytes.{ReadConsumes};
-ghost use Rattle.ltx_outside.specs.Faults.{Rose, next_count};
-ghost use Rattle.ltx_outside.specs.Memory.{is_failing};
+ghost use Rattle.ltx_outside.specs.Memory.{CountsCall, is_to_fail, no_calls};
 
 use crate::calls::Calls;
 use crate::failed::Failed;
@@ -25,7 +24,7 @@ impl Model for MemSource {
 
     ghost Value = { SourceState };
 
-    ghost view = { λ s. record { left = drop s.at s.bytes.items; calls = s.calls.made; failing = s.calls.failing.items; faults = s.calls.faults } };
+    ghost view = { λ s. record { left = drop s.at s.bytes.items; calls = s.calls } };
 
     ghost invariant = { λ s. s.at ≤ length s.bytes.items };
 }
@@ -33,7 +32,7 @@ impl Model for MemSource {
 impl MemSource {
     /// A source of these bytes that fails the reads of these numbers, counted from 1.
     pub fn new(bytes: Vec<u8>, failing: Vec<u64>) -> MemSource
-        ensures { result ≡ record { left = bytes.items; calls = 0; failing = failing.items; faults = 0 } }
+        ensures { result ≡ record { left = bytes.items; calls = no_calls failing.items } }
     {
         MemSource {
             bytes,
@@ -48,7 +47,7 @@ impl Source for MemSource {
 
     ghost left = { λ s. Some s.left };
 
-    ghost faults = { λ s. s.faults };
+    ghost faults = { λ s. s.calls.faults };
 
     /// Takes as many bytes as there are and as fit. It fails exactly where its number is one of those that fail.
     fn read(&mut self, buffer: &mut [u8]) -> Result<usize, Failed>
@@ -56,11 +55,9 @@ impl Source for MemSource {
         ensures taken { ReadConsumes (Some self.old.left) (Some self.new.left) result buffer.new }
         ensures most { IfOk result (λ n. n ≡ min (length buffer.old) (length self.old.left)) }
         ensures kept { OnErr result (self.new.left ≡ self.old.left) }
-        ensures planned { IsErr result ↔ IsTrue (is_failing self.new.calls self.old.failing) }
-        ensures calls { (self.new.calls ≡ next_count self.old.calls) × (self.new.failing ≡ self.old.failing) }
-        ensures counted { self.old.faults ≤ self.new.faults }
-        ensures calm { OnOk result (self.new.faults ≡ self.old.faults) }
-        ensures rose { OnErr result (self.new.faults ≡ next_count self.old.faults) }
+        ensures planned { IsErr result ↔ IsTrue (is_to_fail self.new.calls) }
+        ensures counted { CountsCall self.old.calls self.new.calls result }
+        ensures sound { self.old.calls.failing ≡ [] → self.new.calls.faults ≡ self.old.calls.faults }
     {
         self.calls.next()?;
         let (_, rest) = self.bytes.split_at(self.at);
