@@ -1,5 +1,5 @@
 -- The large definitions over one entry, or one transaction, more.
-use Rattle.std.proofs.Common.{◌≡◌, ℕ, List, [], ◌∷◌, ◌++◌, map, refl, ap, ◌∙◌, Option, Some, None, Bool}
+use Rattle.std.proofs.Common.{◌≡◌, ℕ, List, [], ◌∷◌, ◌++◌, map, refl, sym, ap, ◌∙◌, Option, Some, None, Bool}
 use Rattle.std.specs.List.{cons_option}
 use Rattle.ltx_model.specs.declared.commands.Op.{Op}
 use Rattle.ltx_model.specs.declared.commands.Line.{Line}
@@ -10,7 +10,7 @@ use Rattle.ltx_model.specs.Operations.{Transaction, operations}
 use Rattle.ltx_model.specs.Rows.{reply_on, rows_after_all, see, play, rows_after_transaction, run, RunGives}
 use Rattle.ltx_model.specs.States.{State}
 use Rattle.ltx_model.specs.Histories.{reply_changes, after, state_from}
-use Rattle.ltx_model.specs.Answers.{staged, IsLegalFrom}
+use Rattle.ltx_model.specs.Answers.{staged, IsLegalFrom, entries_from}
 use Rattle.ltx_model.specs.Explained.{Open, opens_after, opens_from, committed_by, committed_from}
 
 -- the state
@@ -59,6 +59,42 @@ pub legal-parts : (built : State → Line → Bool) (s : State) (xs ys : List En
 unfolding IsLegalFrom state_from
 legal-parts built s [] ys legal = (tt, legal)
 legal-parts built s (x ∷ xs) ys legal = let rest = legal-parts built (after s x) xs ys legal.1 in ((legal.0, rest.0), rest.1)
+
+-- the entries that lines get
+pub entries-none : (built : State → Line → Bool) (s : State) → entries_from built s [] ≡ []
+unfolding entries_from
+entries-none built s = refl
+
+pub entries-one : (built : State → Line → Bool) (s : State) (line : Line) → entries_from built s (line ∷ []) ≡ record { line = line; reply = staged built s line } ∷ []
+unfolding entries_from
+entries-one built s line = refl
+
+pub entries-append : (built : State → Line → Bool) (s : State) (xs ys : List Line) → entries_from built s (xs ++ ys) ≡ entries_from built s xs ++ entries_from built (state_from s (entries_from built s xs)) ys
+unfolding entries_from state_from
+entries-append built s [] ys = refl
+entries-append built s (x ∷ xs) ys = let e : Entry = record { line = x; reply = staged built s x } in ap (λ es. e ∷ es) (entries-append built (after s e) xs ys)
+
+pub entries-push : (built : State → Line → Bool) (s : State) (xs : List Line) (x : Line)
+    → entries_from built s (xs ++ x ∷ []) ≡ entries_from built s xs ++ record { line = x; reply = staged built (state_from s (entries_from built s xs)) x } ∷ []
+entries-push built s xs x = entries-append built s xs (x ∷ []) ∙ ap (λ es. entries_from built s xs ++ es) (entries-one built (state_from s (entries_from built s xs)) x)
+
+pub entries-lines : (built : State → Line → Bool) (s : State) (xs : List Line) → map (λ e. e.line) (entries_from built s xs) ≡ xs
+unfolding entries_from
+entries-lines built s [] = refl
+entries-lines built s (x ∷ xs) = ap (λ ls. x ∷ ls) (entries-lines built (after s (record { line = x; reply = staged built s x })) xs)
+
+pub entries-legal : (built : State → Line → Bool) (s : State) (xs : List Line) → IsLegalFrom built s (entries_from built s xs)
+unfolding entries_from IsLegalFrom
+entries-legal built s [] = tt
+entries-legal built s (x ∷ xs) = (refl, entries-legal built (after s (record { line = x; reply = staged built s x })) xs)
+
+-- a legal history is the one that its lines get
+pub entries-only : (built : State → Line → Bool) (s : State) (es : List Entry) → IsLegalFrom built s es → entries_from built s (map (λ e. e.line) es) ≡ es
+unfolding entries_from IsLegalFrom
+entries-only built s [] legal = refl
+entries-only built s (e ∷ es) legal =
+    let same : ◌≡◌ {A = Entry} (record { line = e.line; reply = staged built s e.line }) e = λ i. record { line = e.line; reply = sym legal.0 i } in
+    (λ i. same i ∷ entries_from built (after s (same i)) (map (λ f. f.line) es)) ∙ ap (λ fs. e ∷ fs) (entries-only built (after s e) es legal.1)
 
 -- runs
 pub see-is : (tx : ℕ) (rows : List StoredRow) (earlier : List Op) (op : Op) → see tx rows earlier op ≡ reply_on (rows_after_all tx rows earlier) op

@@ -14,7 +14,7 @@ use Rattle.ltx_model.specs.Shorts.{first_change}
 use Rattle.ltx_model.specs.Batches.{target, first_late, first_contradicted}
 use Rattle.ltx_model.specs.Frames.{sealed, body_length}
 use Rattle.ltx_model.specs.Histories.{after, state_from, state}
-use Rattle.ltx_model.specs.Answers.{answer, entries_from}
+use Rattle.ltx_model.specs.Answers.{everything, answer, entries_from}
 
 -- an empty log, one whose last epoch has come, and one whose last number was given
 abbrev blank : Base
@@ -30,10 +30,10 @@ abbrev asks : ℕ → Verb → Line
 asks session verb = lines.Good (Ask session verb)
 
 abbrev replies_to : Base → List Line → List Reply
-replies_to base ls = map (λ e. e.reply) (entries_from (first_state base) ls)
+replies_to base ls = map (λ e. e.reply) (entries_from everything (first_state base) ls)
 
 abbrev order_after : Base → List Line → List ℕ
-order_after base ls = order (state base (entries_from (first_state base) ls))
+order_after base ls = order (state base (entries_from everything (first_state base) ls))
 
 -- a read sees a commit
 abbrev read_sees_commit : List Line
@@ -52,11 +52,11 @@ read_sees_commit_replies : replies_to blank read_sees_commit ≡
     replies.Begun 2 ∷
     replies.Found (97 ∷ []) ∷
     replies.Committed 1 ∷ []
-unfolding answer after state_from run see first_change target first_late first_contradicted sealed body_length
+unfolding entries_from answer after state_from run see first_change target first_late first_contradicted sealed body_length
 read_sees_commit_replies = refl
 
 read_sees_commit_order : order_after blank read_sees_commit ≡ 1 ∷ 2 ∷ []
-unfolding answer after state_from run see first_change target first_late first_contradicted sealed body_length
+unfolding entries_from answer after state_from run see first_change target first_late first_contradicted sealed body_length
 read_sees_commit_order = refl
 
 -- two shorts read and write one key: the second to commit is refused
@@ -86,11 +86,11 @@ lost_update_is_refused_replies : replies_to blank lost_update_is_refused ≡
     replies.Done ∷
     replies.Committed 1 ∷
     replies.Changed 1 0 (120 ∷ []) (Some 1) (Some 2) ∷ []
-unfolding answer after state_from run see first_change target first_late first_contradicted sealed body_length
+unfolding entries_from answer after state_from run see first_change target first_late first_contradicted sealed body_length
 lost_update_is_refused_replies = refl
 
 lost_update_is_refused_order : order_after blank lost_update_is_refused ≡ 1 ∷ 2 ∷ []
-unfolding answer after state_from run see first_change target first_late first_contradicted sealed body_length
+unfolding entries_from answer after state_from run see first_change target first_late first_contradicted sealed body_length
 lost_update_is_refused_order = refl
 
 -- a row that comes into the range of a scan refuses its short
@@ -112,11 +112,11 @@ phantom_is_refused_replies : replies_to blank phantom_is_refused ≡
     replies.Committed 1 ∷
     replies.Done ∷
     replies.Changed 1 0 (99 ∷ []) None (Some 2) ∷ []
-unfolding answer after state_from run see first_change target first_late first_contradicted sealed body_length
+unfolding entries_from answer after state_from run see first_change target first_late first_contradicted sealed body_length
 phantom_is_refused_replies = refl
 
 phantom_is_refused_order : order_after blank phantom_is_refused ≡ 2 ∷ []
-unfolding answer after state_from run see first_change target first_late first_contradicted sealed body_length
+unfolding entries_from answer after state_from run see first_change target first_late first_contradicted sealed body_length
 phantom_is_refused_order = refl
 
 -- a key that was absent and is absent again has not changed
@@ -146,11 +146,11 @@ absent_then_and_now_passes_replies : replies_to blank absent_then_and_now_passes
     replies.Pruned ∷
     replies.Done ∷
     replies.Committed 1 ∷ []
-unfolding answer after state_from run see first_change target first_late first_contradicted sealed body_length
+unfolding entries_from answer after state_from run see first_change target first_late first_contradicted sealed body_length
 absent_then_and_now_passes_replies = refl
 
 absent_then_and_now_passes_order : order_after blank absent_then_and_now_passes ≡ 2 ∷ 3 ∷ 1 ∷ []
-unfolding answer after state_from run see first_change target first_late first_contradicted sealed body_length
+unfolding entries_from answer after state_from run see first_change target first_late first_contradicted sealed body_length
 absent_then_and_now_passes_order = refl
 
 -- a short that read before a batch became live is refused at its commit
@@ -170,11 +170,11 @@ preserve_is_met_at_commit_replies : replies_to blank preserve_is_met_at_commit �
     replies.Advanced 2 ∷
     replies.Preserved 0 2 ∷
     replies.NoTx ∷ []
-unfolding answer after state_from run see first_change target first_late first_contradicted sealed body_length
+unfolding entries_from answer after state_from run see first_change target first_late first_contradicted sealed body_length
 preserve_is_met_at_commit_replies = refl
 
 preserve_is_met_at_commit_order : order_after blank preserve_is_met_at_commit ≡ []
-unfolding answer after state_from run see first_change target first_late first_contradicted sealed body_length
+unfolding entries_from answer after state_from run see first_change target first_late first_contradicted sealed body_length
 preserve_is_met_at_commit_order = refl
 
 -- a batch is pending until its epoch comes
@@ -192,11 +192,11 @@ batch_waits_for_its_epoch_replies : replies_to blank batch_waits_for_its_epoch �
     replies.Advanced 2 ∷
     replies.Absent ∷
     replies.Committed 2 ∷ []
-unfolding answer after state_from run see first_change target first_late first_contradicted sealed body_length
+unfolding entries_from answer after state_from run see first_change target first_late first_contradicted sealed body_length
 batch_waits_for_its_epoch_replies = refl
 
 batch_waits_for_its_epoch_order : order_after blank batch_waits_for_its_epoch ≡ 1 ∷ []
-unfolding answer after state_from run see first_change target first_late first_contradicted sealed body_length
+unfolding entries_from answer after state_from run see first_change target first_late first_contradicted sealed body_length
 batch_waits_for_its_epoch_order = refl
 
 -- a batch reads in its area and writes what it declared
@@ -216,11 +216,11 @@ declarations_bind_replies : replies_to blank declarations_bind ≡
     replies.Outside 3 ∷
     replies.Done ∷
     replies.Committed 2 ∷ []
-unfolding answer after state_from run see first_change target first_late first_contradicted sealed body_length
+unfolding entries_from answer after state_from run see first_change target first_late first_contradicted sealed body_length
 declarations_bind_replies = refl
 
 declarations_bind_order : order_after blank declarations_bind ≡ 1 ∷ []
-unfolding answer after state_from run see first_change target first_late first_contradicted sealed body_length
+unfolding entries_from answer after state_from run see first_change target first_late first_contradicted sealed body_length
 declarations_bind_order = refl
 
 -- write skew of two batches: the younger waits, and is then contradicted
@@ -248,11 +248,11 @@ skew_of_batches_is_refused_replies : replies_to blank skew_of_batches_is_refused
     replies.Waiting 1 ∷
     replies.Committed 2 ∷
     replies.Contradicts 1 2 1 (120 ∷ []) 1 ∷ []
-unfolding answer after state_from run see first_change target first_late first_contradicted sealed body_length
+unfolding entries_from answer after state_from run see first_change target first_late first_contradicted sealed body_length
 skew_of_batches_is_refused_replies = refl
 
 skew_of_batches_is_refused_order : order_after blank skew_of_batches_is_refused ≡ 1 ∷ []
-unfolding answer after state_from run see first_change target first_late first_contradicted sealed body_length
+unfolding entries_from answer after state_from run see first_change target first_late first_contradicted sealed body_length
 skew_of_batches_is_refused_order = refl
 
 -- a batch is placed before an older one that it overtook
@@ -282,11 +282,11 @@ younger_is_forwarded_replies : replies_to blank younger_is_forwarded ≡
     replies.Committed 2 ∷
     replies.Advanced 3 ∷
     replies.Durable 2 ∷ []
-unfolding answer after state_from run see first_change target first_late first_contradicted sealed body_length
+unfolding entries_from answer after state_from run see first_change target first_late first_contradicted sealed body_length
 younger_is_forwarded_replies = refl
 
 younger_is_forwarded_order : order_after blank younger_is_forwarded ≡ 2 ∷ 1 ∷ []
-unfolding answer after state_from run see first_change target first_late first_contradicted sealed body_length
+unfolding entries_from answer after state_from run see first_change target first_late first_contradicted sealed body_length
 younger_is_forwarded_order = refl
 
 -- the snapshot of a batch has a write that stands after its place
@@ -322,11 +322,11 @@ late_read_is_refused_replies : replies_to blank late_read_is_refused ≡
     replies.Done ∷
     replies.Committed 3 ∷
     replies.Late 1 1 5 (120 ∷ []) 2 ∷ []
-unfolding answer after state_from run see first_change target first_late first_contradicted sealed body_length
+unfolding entries_from answer after state_from run see first_change target first_late first_contradicted sealed body_length
 late_read_is_refused_replies = refl
 
 late_read_is_refused_order : order_after blank late_read_is_refused ≡ 1 ∷ 2 ∷ []
-unfolding answer after state_from run see first_change target first_late first_contradicted sealed body_length
+unfolding entries_from answer after state_from run see first_change target first_late first_contradicted sealed body_length
 late_read_is_refused_order = refl
 
 -- the elder aborts, and the younger commits at its slot
@@ -360,11 +360,11 @@ elder_aborts_replies : replies_to blank elder_aborts ≡
     replies.Waiting 1 ∷
     replies.Aborted ∷
     replies.Committed 3 ∷ []
-unfolding answer after state_from run see first_change target first_late first_contradicted sealed body_length
+unfolding entries_from answer after state_from run see first_change target first_late first_contradicted sealed body_length
 elder_aborts_replies = refl
 
 elder_aborts_order : order_after blank elder_aborts ≡ 2 ∷ 3 ∷ []
-unfolding answer after state_from run see first_change target first_late first_contradicted sealed body_length
+unfolding entries_from answer after state_from run see first_change target first_late first_contradicted sealed body_length
 elder_aborts_order = refl
 
 -- a forwarded write is not the latest where a later one stands
@@ -400,11 +400,11 @@ forwarded_write_stays_under_replies : replies_to blank forwarded_write_stays_und
     replies.Found (115 ∷ []) ∷
     replies.Committed 3 ∷
     replies.Committed 3 ∷ []
-unfolding answer after state_from run see first_change target first_late first_contradicted sealed body_length
+unfolding entries_from answer after state_from run see first_change target first_late first_contradicted sealed body_length
 forwarded_write_stays_under_replies = refl
 
 forwarded_write_stays_under_order : order_after blank forwarded_write_stays_under ≡ 3 ∷ 1 ∷ 2 ∷ 4 ∷ []
-unfolding answer after state_from run see first_change target first_late first_contradicted sealed body_length
+unfolding entries_from answer after state_from run see first_change target first_late first_contradicted sealed body_length
 forwarded_write_stays_under_order = refl
 
 -- the target of a forwarded batch is refused later
@@ -438,11 +438,11 @@ forwarded_before_a_refused_one_replies : replies_to blank forwarded_before_a_ref
     replies.Done ∷
     replies.Committed 2 ∷
     replies.Contradicts 1 2 1 (120 ∷ []) 3 ∷ []
-unfolding answer after state_from run see first_change target first_late first_contradicted sealed body_length
+unfolding entries_from answer after state_from run see first_change target first_late first_contradicted sealed body_length
 forwarded_before_a_refused_one_replies = refl
 
 forwarded_before_a_refused_one_order : order_after blank forwarded_before_a_refused_one ≡ 1 ∷ 3 ∷ []
-unfolding answer after state_from run see first_change target first_late first_contradicted sealed body_length
+unfolding entries_from answer after state_from run see first_change target first_late first_contradicted sealed body_length
 forwarded_before_a_refused_one_order = refl
 
 -- each flush makes the closed epochs durable
@@ -470,11 +470,11 @@ closed_epochs_become_durable_replies : replies_to blank closed_epochs_become_dur
     replies.Committed 2 ∷
     replies.Advanced 3 ∷
     replies.Durable 2 ∷ []
-unfolding answer after state_from run see first_change target first_late first_contradicted sealed body_length
+unfolding entries_from answer after state_from run see first_change target first_late first_contradicted sealed body_length
 closed_epochs_become_durable_replies = refl
 
 closed_epochs_become_durable_order : order_after blank closed_epochs_become_durable ≡ 1 ∷ 2 ∷ []
-unfolding answer after state_from run see first_change target first_late first_contradicted sealed body_length
+unfolding entries_from answer after state_from run see first_change target first_late first_contradicted sealed body_length
 closed_epochs_become_durable_order = refl
 
 -- at the last epoch no epoch and no batch begins
@@ -492,11 +492,11 @@ last_epoch_is_met_replies : replies_to at_last_epoch last_epoch_is_met ≡
     replies.Begun 1 ∷
     replies.Committed 4294967294 ∷
     replies.Durable 4294967293 ∷ []
-unfolding answer after state_from run see first_change target first_late first_contradicted sealed body_length
+unfolding entries_from answer after state_from run see first_change target first_late first_contradicted sealed body_length
 last_epoch_is_met_replies = refl
 
 last_epoch_is_met_order : order_after at_last_epoch last_epoch_is_met ≡ 1 ∷ []
-unfolding answer after state_from run see first_change target first_late first_contradicted sealed body_length
+unfolding entries_from answer after state_from run see first_change target first_late first_contradicted sealed body_length
 last_epoch_is_met_order = refl
 
 -- a sum over a snapshot runs beside transfers, and is never refused
@@ -576,11 +576,11 @@ sum_beside_order_entry_replies : replies_to blank sum_beside_order_entry ≡
     replies.Committed 2 ∷
     replies.Advanced 3 ∷
     replies.Durable 2 ∷ []
-unfolding answer after state_from run see first_change target first_late first_contradicted sealed body_length
+unfolding entries_from answer after state_from run see first_change target first_late first_contradicted sealed body_length
 sum_beside_order_entry_replies = refl
 
 sum_beside_order_entry_order : order_after blank sum_beside_order_entry ≡ 1 ∷ 2 ∷ 3 ∷ 4 ∷ 6 ∷ []
-unfolding answer after state_from run see first_change target first_late first_contradicted sealed body_length
+unfolding entries_from answer after state_from run see first_change target first_late first_contradicted sealed body_length
 sum_beside_order_entry_order = refl
 
 -- a transaction sees its own writes
@@ -604,11 +604,11 @@ own_writes_are_seen_replies : replies_to blank own_writes_are_seen ≡
     replies.Rows (record { key = (97 ∷ 32 ∷ 98 ∷ []); value = [] } ∷ []) ∷
     replies.Found [] ∷
     replies.Committed 1 ∷ []
-unfolding answer after state_from run see first_change target first_late first_contradicted sealed body_length
+unfolding entries_from answer after state_from run see first_change target first_late first_contradicted sealed body_length
 own_writes_are_seen_replies = refl
 
 own_writes_are_seen_order : order_after blank own_writes_are_seen ≡ 1 ∷ []
-unfolding answer after state_from run see first_change target first_late first_contradicted sealed body_length
+unfolding entries_from answer after state_from run see first_change target first_late first_contradicted sealed body_length
 own_writes_are_seen_order = refl
 
 -- at the last number nothing begins
@@ -620,11 +620,11 @@ last_number_is_met =
 last_number_is_met_replies : replies_to at_last_number last_number_is_met ≡
     replies.LimitTx ∷
     replies.LimitTx ∷ []
-unfolding answer after state_from run see first_change target first_late first_contradicted sealed body_length
+unfolding entries_from answer after state_from run see first_change target first_late first_contradicted sealed body_length
 last_number_is_met_replies = refl
 
 last_number_is_met_order : order_after at_last_number last_number_is_met ≡ []
-unfolding answer after state_from run see first_change target first_late first_contradicted sealed body_length
+unfolding entries_from answer after state_from run see first_change target first_late first_contradicted sealed body_length
 last_number_is_met_order = refl
 
 -- a session has one open transaction
@@ -648,11 +648,11 @@ one_transaction_a_session_replies : replies_to blank one_transaction_a_session �
     replies.NotYet 2 ∷
     replies.Aborted ∷
     replies.Durable 0 ∷ []
-unfolding answer after state_from run see first_change target first_late first_contradicted sealed body_length
+unfolding entries_from answer after state_from run see first_change target first_late first_contradicted sealed body_length
 one_transaction_a_session_replies = refl
 
 one_transaction_a_session_order : order_after blank one_transaction_a_session ≡ []
-unfolding answer after state_from run see first_change target first_late first_contradicted sealed body_length
+unfolding entries_from answer after state_from run see first_change target first_late first_contradicted sealed body_length
 one_transaction_a_session_order = refl
 
 -- a deletion that a batch saw stays a witness after a prune
@@ -696,9 +696,9 @@ deletion_keeps_its_witness_replies : replies_to blank deletion_keeps_its_witness
     replies.Committed 3 ∷
     replies.Pruned ∷
     replies.Late 2 1 5 (120 ∷ []) 3 ∷ []
-unfolding answer after state_from run see first_change target first_late first_contradicted sealed body_length
+unfolding entries_from answer after state_from run see first_change target first_late first_contradicted sealed body_length
 deletion_keeps_its_witness_replies = refl
 
 deletion_keeps_its_witness_order : order_after blank deletion_keeps_its_witness ≡ 1 ∷ 2 ∷ 3 ∷ []
-unfolding answer after state_from run see first_change target first_late first_contradicted sealed body_length
+unfolding entries_from answer after state_from run see first_change target first_late first_contradicted sealed body_length
 deletion_keeps_its_witness_order = refl
