@@ -1,2 +1,3 @@
 pub mod OneMore
 pub mod WorkedScripts
+pub mod TableSets
