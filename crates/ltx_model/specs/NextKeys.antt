@@ -4,7 +4,7 @@ use Rattle.std.specs.declared.cmp.Ordering.TheVariants.{Less}
 use Rattle.std.specs.Ordering.{is_lt, is_le}
 use Rattle.ltx_model.specs.declared.rows.StoredRow.{StoredRow}
 use Rattle.ltx_model.specs.Keys.{key_cmp}
-use Rattle.ltx_model.specs.Rows.{writer_at}
+use Rattle.ltx_model.specs.StoredRows.{writer_at}
 
 -- whether a key stands at a bound or above it, and where strict above it
 abbrev pub is_from : List ℕ → Bool → List ℕ → Bool

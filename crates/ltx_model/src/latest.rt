@@ -2,7 +2,7 @@
 
 ghost use Rattle.std.specs.Prelude.{◌≡◌, ℕ, List, IfSome, IfNone};
 ghost use Rattle.ltx_model.specs.declared.rows.StoredRow.{StoredRow};
-ghost use Rattle.ltx_model.specs.Rows.{writer_at};
+ghost use Rattle.ltx_model.specs.StoredRows.{writer_at};
 ghost use Rattle.ltx_model.specs.NextKeys.{IsNextKey, HasNoNextKey};
 
 use crate::bytes::Key;
