@@ -1,0 +1,212 @@
+-- No spelling of a byte begins another, so a text is the spellings of one byte string at most.
+use Rattle.std.proofs.Common.{◌≡◌, ◌≢◌, ℕ, ◌/◌, ◌%◌, ◌<◌, ◌≤◌, true, false, List, [], ◌∷◌, ◌++◌, length, take, drop, refl, sym, ap, subst, ◌∙◌, append_assoc, arith, inl, inr}
+use Rattle.std.specs.Prelude.{IsTrue}
+use Rattle.std.specs.List.{AllByRecursion, AllPass}
+use Rattle.std.proofs.lemmas.List.Elements.{All-drop, All-from_recursion, All-head, recursion_from_All}
+use Rattle.std.proofs.lemmas.List.{drop_at, length-append, take-append-drop, take-append-le, take_all}
+use Rattle.std.proofs.Math.Seq.{take-append_seam}
+use Rattle.std.proofs.lemmas.Grind.{flat_map-append}
+use Rattle.std.proofs.lemmas.Bool.{both_ways, cases_Bool}
+use lib.Pointwise.{pointwise}
+use lib.Dec.{eqb}
+use Rattle.ltx_text.specs.Words.{AreBytes, AreVisible, byte_spelling, hex_digit, is_plain, is_visible, spellings, word_of}
+
+pub plain_spelling : (b : ℕ) → is_plain b ≡ true → byte_spelling b ≡ b ∷ []
+unfolding byte_spelling
+plain_spelling b plain = rw plain refl
+
+pub escaped_spelling : (b : ℕ) → is_plain b ≡ false → byte_spelling b ≡ 37 ∷ hex_digit (b / 16) ∷ hex_digit (b % 16) ∷ []
+unfolding byte_spelling
+escaped_spelling b escaped = rw escaped refl
+
+pub hex_digit_one : (d e : ℕ) → hex_digit d ≡ hex_digit e → d ≡ e
+hex_digit_one d e same = grind arith
+
+percent_is_escaped : is_plain 37 ≡ false
+percent_is_escaped = refl
+
+pub plain_is_byte : (b : ℕ) → is_plain b ≡ true → b < 256
+plain_is_byte b plain = grind arith
+
+-- two texts that begin with a byte's spelling begin with the same byte
+pub one_front : (b c : ℕ) (s t : List ℕ) → byte_spelling b ++ s ≡ byte_spelling c ++ t → (b ≡ c) × (s ≡ t)
+one_front b c s t same =
+    elim (cases_Bool (is_plain b)) [
+      | inl p ↦ elim (cases_Bool (is_plain c)) [
+        | inl q ↦ let e : b ∷ s ≡ c ∷ t = (rw (plain_spelling b p, plain_spelling c q) at same) in (cc, cc)
+        | inr q ↦ let e : b ∷ s ≡ 37 ∷ hex_digit (c / 16) ∷ hex_digit (c % 16) ∷ t = (rw (plain_spelling b p, escaped_spelling c q) at same) in
+            let h : b ≡ 37 = cc in absurd (grind (arith, p, h))
+      ]
+      | inr p ↦ elim (cases_Bool (is_plain c)) [
+        | inl q ↦ let e : 37 ∷ hex_digit (b / 16) ∷ hex_digit (b % 16) ∷ s ≡ c ∷ t = (rw (escaped_spelling b p, plain_spelling c q) at same) in
+            let h : c ≡ 37 = cc in absurd (grind (arith, q, h))
+        | inr q ↦ let e : 37 ∷ hex_digit (b / 16) ∷ hex_digit (b % 16) ∷ s ≡ 37 ∷ hex_digit (c / 16) ∷ hex_digit (c % 16) ∷ t = (rw (escaped_spelling b p, escaped_spelling c q) at same) in
+            let upper : hex_digit (b / 16) ≡ hex_digit (c / 16) = cc in
+            let lower : hex_digit (b % 16) ≡ hex_digit (c % 16) = cc in
+            let h = hex_digit_one (b / 16) (c / 16) upper in
+            let l = hex_digit_one (b % 16) (c % 16) lower in
+            (omega (arith, h, l), cc)
+      ]
+    ]
+
+-- ---- spellings one after the other
+
+pub spelling_lengthens : (b : ℕ) (s : List ℕ) → length s < length (byte_spelling b ++ s)
+spelling_lengthens b s =
+    elim (cases_Bool (is_plain b)) [
+      | inl p ↦ rw (plain_spelling b p) (omega arith)
+      | inr p ↦ rw (escaped_spelling b p) (omega arith)
+    ]
+
+spelling_is_some : (b : ℕ) (s : List ℕ) → byte_spelling b ++ s ≢ []
+spelling_is_some b s none =
+    elim (cases_Bool (is_plain b)) [
+      | inl p ↦ let e : b ∷ s ≡ [] = (rw (plain_spelling b p) at none) in absurd cc
+      | inr p ↦ let e : 37 ∷ hex_digit (b / 16) ∷ hex_digit (b % 16) ∷ s ≡ [] = (rw (escaped_spelling b p) at none) in absurd cc
+    ]
+
+same_cells : (x y : ℕ) (xs ys : List ℕ) → x ≡ y → xs ≡ ys → x ∷ xs ≡ y ∷ ys
+same_cells x y xs ys head tail = cc
+
+-- what comes after some spellings in a text of spellings is spellings itself
+pub record ReadsOn (front rest bytes : List ℕ) : Type 0 where
+  pub more : List ℕ
+  pub joined : bytes ≡ front ++ more
+  pub spelt : rest ≡ spellings more
+
+pub after_spellings : (front rest bytes : List ℕ) → spellings front ++ rest ≡ spellings bytes → ReadsOn front rest bytes
+after_spellings [] rest bytes same = record { more = bytes; joined = refl; spelt = same }
+after_spellings (b ∷ front) rest [] same =
+    absurd (spelling_is_some b (spellings front ++ rest) (sym (append_assoc (byte_spelling b) (spellings front) rest) ∙ same))
+after_spellings (b ∷ front) rest (c ∷ bytes) same =
+    let parts = one_front b c (spellings front ++ rest) (spellings bytes) (sym (append_assoc (byte_spelling b) (spellings front) rest) ∙ same) in
+    let r = after_spellings front rest bytes parts.1 in
+    record { more = r.more; joined = same_cells c b bytes (front ++ r.more) (sym parts.0) r.joined; spelt = r.spelt }
+
+-- a text is the spellings of one byte string at most
+pub spellings_one : (xs ys : List ℕ) → spellings xs ≡ spellings ys → xs ≡ ys
+spellings_one [] [] same = refl
+spellings_one [] (y ∷ ys) same = absurd (spelling_is_some y (spellings ys) (sym same))
+spellings_one (x ∷ xs) [] same = absurd (spelling_is_some x (spellings xs) same)
+spellings_one (x ∷ xs) (y ∷ ys) same =
+    let parts = one_front x y (spellings xs) (spellings ys) same in
+    same_cells x y xs ys parts.0 (spellings_one xs ys parts.1)
+
+-- a text that goes on after some spellings with no byte's spelling is no byte string's spellings
+pub broken_text : (front rest text bytes : List ℕ) → text ≡ spellings front ++ rest → 0 < length rest
+    → ((b : ℕ) (s : List ℕ) → b < 256 → rest ≢ byte_spelling b ++ s) → AreBytes bytes → text ≢ spellings bytes
+broken_text front rest text bytes split some none low same =
+    let r = after_spellings front rest bytes (sym split ∙ same) in
+    none_left rest r.more some none (All-drop (λ c. c < 256) (length front) bytes low) r.spelt (ap (drop (length front)) r.joined ∙ drop_at front r.more (length front) refl)
+  where
+    none_left : (rest more : List ℕ) → 0 < length rest → ((b : ℕ) (s : List ℕ) → b < 256 → rest ≢ byte_spelling b ++ s)
+        → AreBytes (drop (length front) bytes) → rest ≡ spellings more → drop (length front) bytes ≡ more → ⊥
+    none_left rest [] some none low spelt is = omega (arith, some, ap length spelt)
+    none_left rest (b ∷ more) some none low spelt is =
+        none b (spellings more) (All-head (λ c. c < 256) b more (subst AreBytes is low)) spelt
+
+percent_is_no_byte : (b : ℕ) (s : List ℕ) → 37 ∷ [] ≢ byte_spelling b ++ s
+percent_is_no_byte b s same =
+    elim (cases_Bool (is_plain b)) [
+      | inl p ↦ let e : 37 ∷ [] ≡ b ∷ s = (rw (plain_spelling b p) at same) in
+          let h : b ≡ 37 = cc in absurd (grind (arith, p, h))
+      | inr p ↦ let e : 37 ∷ [] ≡ 37 ∷ hex_digit (b / 16) ∷ hex_digit (b % 16) ∷ s = (rw (escaped_spelling b p) at same) in absurd cc
+    ]
+
+-- each byte string has one word, and no two have the same
+pub word_spelling_injective : (xs ys : List ℕ) → word_of xs ≡ word_of ys → xs ≡ ys
+word_spelling_injective [] [] same = refl
+word_spelling_injective [] (y ∷ ys) same = absurd (percent_is_no_byte y (spellings ys) same)
+word_spelling_injective (x ∷ xs) [] same = absurd (percent_is_no_byte x (spellings xs) (sym same))
+word_spelling_injective (x ∷ xs) (y ∷ ys) same = spellings_one (x ∷ xs) (y ∷ ys) same
+
+-- ---- a word is not empty, and its bytes are visible
+
+pub word_is_some : (bytes : List ℕ) → 0 < length (word_of bytes)
+word_is_some [] = omega arith
+word_is_some (b ∷ bytes) = omega (arith, spelling_lengthens b (spellings bytes))
+
+each-append : (P : ℕ → Type 0) (xs ys : List ℕ) → AllByRecursion P xs → AllByRecursion P ys → AllByRecursion P (xs ++ ys)
+each-append P [] ys p q = q
+each-append P (x ∷ xs) ys p q = (p.0, each-append P xs ys p.1 q)
+
+hex_digit_is_visible : (d : ℕ) → d < 16 → IsTrue (is_visible (hex_digit d))
+hex_digit_is_visible d low = grind arith
+
+plain_is_visible : (b : ℕ) → is_plain b ≡ true → IsTrue (is_visible b)
+plain_is_visible b plain = grind arith
+
+spelling_is_visible : (b : ℕ) → b < 256 → AllByRecursion (λ c. IsTrue (is_visible c)) (byte_spelling b)
+spelling_is_visible b low =
+    elim (cases_Bool (is_plain b)) [
+      | inl p ↦ rw (plain_spelling b p) (plain_is_visible b p, tt)
+      | inr p ↦ rw (escaped_spelling b p) (refl, (hex_digit_is_visible (b / 16) (omega arith), (hex_digit_is_visible (b % 16) (omega arith), tt)))
+    ]
+
+spellings_are_visible : (bytes : List ℕ) → AllByRecursion (λ b. b < 256) bytes → AllByRecursion (λ c. IsTrue (is_visible c)) (spellings bytes)
+spellings_are_visible [] low = tt
+spellings_are_visible (b ∷ bytes) low = each-append (λ c. IsTrue (is_visible c)) (byte_spelling b) (spellings bytes) (spelling_is_visible b low.0) (spellings_are_visible bytes low.1)
+
+pub word_is_visible : (bytes : List ℕ) → AreBytes bytes → AreVisible (word_of bytes)
+word_is_visible [] low = All-from_recursion (λ c. IsTrue (is_visible c)) (37 ∷ []) (refl, tt)
+word_is_visible (b ∷ bytes) low = All-from_recursion (λ c. IsTrue (is_visible c)) (spellings (b ∷ bytes)) (spellings_are_visible (b ∷ bytes) (recursion_from_All (λ c. c < 256) (b ∷ bytes) low))
+
+-- ---- bytes that stand for themselves
+
+plain_by_recursion : (xs : List ℕ) → AllByRecursion (λ b. is_plain b ≡ true) xs → spellings xs ≡ xs
+plain_by_recursion [] plain = refl
+plain_by_recursion (x ∷ xs) plain = rw (plain_spelling x plain.0, plain_by_recursion xs plain.1) refl
+
+pub plain_spellings : (xs : List ℕ) → AllPass is_plain xs → spellings xs ≡ xs
+plain_spellings xs plain = plain_by_recursion xs (recursion_from_All (λ b. is_plain b ≡ true) xs plain)
+
+pub plain_begins : (b : ℕ) (rest text : List ℕ) → is_plain b ≡ true → text ≡ b ∷ rest → text ≡ byte_spelling b ++ rest
+plain_begins b rest text plain is = rw (plain_spelling b plain) is
+
+-- ---- the parts of an escape
+
+pub escape_begins : (b high low first : ℕ) (after second rest text : List ℕ) → text ≡ first ∷ after → after ≡ high ∷ second → second ≡ low ∷ rest → first ≡ 37
+    → is_plain b ≡ false → hex_digit (b / 16) ≡ high → hex_digit (b % 16) ≡ low → text ≡ byte_spelling b ++ rest
+escape_begins b high low first after second rest text one two three percent escaped h l = rw (escaped_spelling b escaped, h, l) cc
+
+pub record IsEscape (first : ℕ) (after : List ℕ) (b : ℕ) (rest : List ℕ) : Type 0 where
+  pub escaped : is_plain b ≡ false
+  pub percent : first ≡ 37
+  pub digits : after ≡ hex_digit (b / 16) ∷ hex_digit (b % 16) ∷ rest
+
+-- what begins with a byte that does not stand for itself, and is a spelling, is an escape
+pub is_escape : (b first : ℕ) (after rest text : List ℕ) → text ≡ first ∷ after → is_plain first ≡ false → text ≡ byte_spelling b ++ rest → IsEscape first after b rest
+is_escape b first after rest text begins escaped same =
+    let back : first ∷ after ≡ text = sym begins in
+    elim (cases_Bool (is_plain b)) [
+      | inl p ↦ let e : first ∷ after ≡ b ∷ rest = back ∙ (rw (plain_spelling b p) at same) in
+          let h : first ≡ b = cc in absurd (both_ways (is_plain first) escaped (rw h p))
+      | inr p ↦ let e : first ∷ after ≡ 37 ∷ hex_digit (b / 16) ∷ hex_digit (b % 16) ∷ rest = back ∙ (rw (escaped_spelling b p) at same) in
+          record { escaped = p; percent = cc; digits = cc }
+    ]
+
+-- ---- what stands in front stays there
+
+pub front_kept : (old front base more mid new : List ℕ) → base ≡ old ++ front → mid ≡ base ++ more → take (length mid) new ≡ mid → take (length old) new ≡ old
+front_kept old front base more mid new one two kept =
+    let whole : mid ≡ old ++ (front ++ more) = two ∙ ap (λ (t : List ℕ). t ++ more) one ∙ append_assoc old front more in
+    let longer : length old ≤ length mid = omega (arith, ap length whole, length-append old (front ++ more)) in
+    let split : new ≡ mid ++ drop (length mid) new = sym (take-append-drop (length mid) new) ∙ ap (λ (t : List ℕ). t ++ drop (length mid) new) kept in
+    ap (take (length old)) split ∙ take-append-le (length old) mid (drop (length mid) new) longer ∙ ap (take (length old)) whole ∙ take-append_seam old (front ++ more)
+
+-- a word, from the bytes that stand for themselves at its front and the spellings of the others
+pub word_by_parts : (old bytes front rest all : List ℕ) (n : ℕ) → 0 < length bytes → bytes ≡ front ++ rest → AllPass is_plain front → length rest ≤ n → all ≡ old ++ (front ++ spellings (take n rest)) → all ≡ old ++ word_of bytes
+word_by_parts old [] front rest all n some parts plain whole is = absurd (omega (arith, some))
+word_by_parts old (b ∷ bytes) front rest all n some parts plain whole is =
+    is ∙ ap (λ (t : List ℕ). old ++ t) (ap (λ (t : List ℕ). front ++ spellings t) (take_all n rest whole) ∙ ap (λ (t : List ℕ). t ++ spellings rest) (sym (plain_spellings front plain))
+    ∙ sym (flat_map-append byte_spelling front rest) ∙ ap spellings (sym parts))
+
+-- the words other than `%` are spellings
+pub word_of_others : (word bytes : List ℕ) → word ≢ 37 ∷ [] → word ≡ word_of bytes → word ≡ spellings bytes
+word_of_others word [] other same = absurd (other same)
+word_of_others word (b ∷ bytes) other same = same
+
+pub is_other : (word percent : List ℕ) → percent ≡ 37 ∷ [] → false ≡ pointwise eqb word percent → word ≢ 37 ∷ []
+is_other word percent is differs same =
+    let computed : pointwise eqb word percent ≡ true = rw (same, is) refl in
+    both_ways (pointwise eqb word percent) (sym differs) computed
