@@ -4,3 +4,4 @@ pub mod Serials
 pub mod Cells
 pub mod Rising
 pub mod Views
+pub mod Runs
