@@ -1,1 +1,4 @@
+pub mod Agendas
+pub mod Pairs
+pub mod Snapshots
 pub mod Transitions

@@ -2,9 +2,8 @@
 use Rattle.std.specs.Prelude.{◌≡◌, ◌≢◌, ℕ, ◌<◌, ◌≤◌, Bool, true, false, not, ◌==◌, List, [], ◌∷◌, filter, None, IsPermutation}
 use Rattle.std.specs.List.{list_any, AllByRecursion}
 use Rattle.ltx_model.specs.Operations.{Transaction}
-use Rattle.ltx_model.specs.Agenda.{Member, LiveSlot, Committed, number_of, is_member, Move, Slot, CommitShort, CommitHome, CommitBefore, Leave, Timed, agenda_from, serial, is_slot, commits_of, moves_until, part_before}
+use Rattle.ltx_model.specs.Agenda.{Member, LiveSlot, Committed, number_of, is_member, Move, Slot, CommitShort, CommitHome, CommitBefore, Leave, Timed, agenda_from, serial, is_slot, commits_of, commits_batch, moves_since, moves_until, part_before}
 use Rattle.ltx_model.specs.States.{Declaration, Kind, IsShort, IsPending, IsLive, Step, Active, Base, State}
-use Rattle.ltx_model.specs.Batches.{commits_after_slot}
 use Rattle.ltx_model.specs.Answers.{refusal}
 
 -- each item of a list stands in the relation to each later one
@@ -28,6 +27,10 @@ forwards n (Leave m) = false
 abbrev pub is_forwarded : List Timed → ℕ → Bool
 is_forwarded moves n = list_any (λ m. forwards n m.move) moves
 
+-- a batch of this number committed after the slot of n
+abbrev pub commits_after : List Timed → ℕ → ℕ → Bool
+commits_after moves n c = list_any (λ m. commits_batch c m.move) (moves_since n moves)
+
 -- of a live batch, what is said of it
 abbrev pub if_live : Kind → Bool → Bool
 if_live IsShort b = false
@@ -39,33 +42,33 @@ abbrev pub is_live_as : ℕ → Active → Bool
 is_live_as n o = if_live o.kind (o.number == n)
 
 -- The open transactions stand in the order of their numbers, above the base's last number and up to the state's, and no session has two.
-pub record AreOpen (base : Base) (s : State) : Type 0 where
-  pub above : AllByRecursion (λ o. base.last < o.number) s.active
-  pub bound : AllByRecursion (λ o. o.number ≤ s.last) s.active
-  pub rising : IsPairwise (λ a b. a.number < b.number) s.active
-  pub sessions : IsPairwise (λ a b. a.session ≢ b.session) s.active
+pub record AreOpen (base : Base) (last : ℕ) (active : List Active) : Type 0 where
+  pub above : AllByRecursion (λ o. base.last < o.number) active
+  pub bound : AllByRecursion (λ o. o.number ≤ last) active
+  pub rising : IsPairwise (λ a b. a.number < b.number) active
+  pub sessions : IsPairwise (λ a b. a.session ≢ b.session) active
 
 -- The numbers of slots are those of transactions that have begun, and only a batch that became live is forwarded.
-pub record AreSlots (s : State) : Type 0 where
-  pub bound : (n : ℕ) → has_slot s.moves n ≡ true → n ≤ s.last
-  pub forwarded : (n : ℕ) → is_forwarded s.moves n ≡ true → has_slot s.moves n ≡ true
+pub record AreSlots (last : ℕ) (moves : List Timed) : Type 0 where
+  pub bound : (n : ℕ) → has_slot moves n ≡ true → n ≤ last
+  pub forwarded : (n : ℕ) → is_forwarded moves n ≡ true → has_slot moves n ≡ true
 
--- The slot of a live batch: the batch is open, became live, and is not committed.
-pub record IsSlotOfLive (s : State) (n : ℕ) : Type 0 where
-  pub live : list_any (is_live_as n) s.active ≡ true
-  pub slotted : has_slot s.moves n ≡ true
-  pub unforwarded : is_forwarded s.moves n ≡ false
+-- The slot of a live batch: the batch is open, became live, and was not forwarded.
+pub record IsSlotOfLive (active : List Active) (moves : List Timed) (n : ℕ) : Type 0 where
+  pub live : list_any (is_live_as n) active ≡ true
+  pub slotted : has_slot moves n ≡ true
+  pub unforwarded : is_forwarded moves n ≡ false
 
 -- A member is the slot of a live batch, or a committed transaction, which no open transaction shares its number with.
-abbrev pub IsKnown : State → Member → Type 0
-IsKnown s (LiveSlot n) = IsSlotOfLive s n
-IsKnown s (Committed t) = AllByRecursion (λ o. o.number ≢ t.number) s.active
+abbrev pub IsKnown : List Active → List Timed → Member → Type 0
+IsKnown active moves (LiveSlot n) = IsSlotOfLive active moves n
+IsKnown active moves (Committed t) = AllByRecursion (λ o. o.number ≢ t.number) active
 
 -- The members of the agenda have numbers of transactions that have begun.
-pub record AreMembers (base : Base) (s : State) : Type 0 where
-  pub above : AllByRecursion (λ m. base.last < number_of m) s.agenda
-  pub bound : AllByRecursion (λ m. number_of m ≤ s.last) s.agenda
-  pub known : AllByRecursion (IsKnown s) s.agenda
+pub record AreMembers (base : Base) (last : ℕ) (active : List Active) (moves : List Timed) (agenda : List Member) : Type 0 where
+  pub above : AllByRecursion (λ m. base.last < number_of m) agenda
+  pub bound : AllByRecursion (λ m. number_of m ≤ last) agenda
+  pub known : AllByRecursion (IsKnown active moves) agenda
 
 -- Of two members of the agenda, the first one before the second: they have different numbers, and of two batches that stand
 -- against their numbers the one with the greater number, which stands first, was forwarded.
@@ -74,45 +77,45 @@ pub record IsBefore (moves : List Timed) (x y : Member) : Type 0 where
   pub elder : has_slot moves (number_of x) ≡ true → has_slot moves (number_of y) ≡ true → number_of y < number_of x → is_forwarded moves (number_of x) ≡ true
 
 -- A short that is open: its number is no member's, and never was a slot's.
-pub record IsOpenShort (s : State) (n : ℕ) : Type 0 where
-  pub fresh : is_member s.agenda n ≡ false
-  pub unslotted : has_slot s.moves n ≡ false
+pub record IsOpenShort (agenda : List Member) (moves : List Timed) (n : ℕ) : Type 0 where
+  pub fresh : is_member agenda n ≡ false
+  pub unslotted : has_slot moves n ≡ false
 
 -- A pending batch: its number is no member's, it has done nothing, and each batch that ever became live has a smaller number.
-pub record IsPendingBatch (s : State) (n : ℕ) (steps : List Step) : Type 0 where
-  pub fresh : is_member s.agenda n ≡ false
-  pub later : (k : ℕ) → has_slot s.moves k ≡ true → k < n
+pub record IsPendingBatch (agenda : List Member) (moves : List Timed) (n : ℕ) (steps : List Step) : Type 0 where
+  pub fresh : is_member agenda n ≡ false
+  pub later : (k : ℕ) → has_slot moves k ≡ true → k < n
   pub idle : steps ≡ []
 
 -- A live batch. It has a slot in the agenda. Its snapshot is the serial order that the moves before its slot give; and it is the
 -- committed members that stand before it now and did not commit after its slot, in the present order. Its operations were inside
 -- what it declared.
-pub record IsLiveBatch (s : State) (n : ℕ) (d : Declaration) (snapshot : List Transaction) (steps : List Step) : Type 0 where
-  pub member : is_member s.agenda n ≡ true
-  pub slotted : has_slot s.moves n ≡ true
-  pub taken : snapshot ≡ serial (agenda_from [] (moves_until n s.moves))
-  pub now : snapshot ≡ filter (λ t. not (commits_after_slot s n t.number)) (serial (part_before n s.agenda))
+pub record IsLiveBatch (agenda : List Member) (moves : List Timed) (n : ℕ) (d : Declaration) (snapshot : List Transaction) (steps : List Step) : Type 0 where
+  pub member : is_member agenda n ≡ true
+  pub slotted : has_slot moves n ≡ true
+  pub taken : snapshot ≡ serial (agenda_from [] (moves_until n moves))
+  pub now : snapshot ≡ filter (λ t. not (commits_after moves n t.number)) (serial (part_before n agenda))
   pub inside : AllByRecursion (λ step. refusal d step.op ≡ None) steps
 
-abbrev pub StandsAs : State → Kind → ℕ → List Step → Type 0
-StandsAs s IsShort n steps = IsOpenShort s n
-StandsAs s (IsPending d) n steps = IsPendingBatch s n steps
-StandsAs s (IsLive d snapshot) n steps = IsLiveBatch s n d snapshot steps
+abbrev pub StandsAs : List Member → List Timed → Kind → ℕ → List Step → Type 0
+StandsAs agenda moves IsShort n steps = IsOpenShort agenda moves n
+StandsAs agenda moves (IsPending d) n steps = IsPendingBatch agenda moves n steps
+StandsAs agenda moves (IsLive d snapshot) n steps = IsLiveBatch agenda moves n d snapshot steps
 
 -- an open transaction stands by its kind
-abbrev pub Stands : State → Active → Type 0
-Stands s o = StandsAs s o.kind o.number o.steps
+abbrev pub Stands : List Member → List Timed → Active → Type 0
+Stands agenda moves o = StandsAs agenda moves o.kind o.number o.steps
 
 -- The structure of a state that a legal history leads to.
 pub record Structure (base : Base) (s : State) : Type 0 where
   pub rows : s.base ≡ base.rows
   pub last : base.last ≤ s.last
-  pub opens : AreOpen base s
-  pub slots : AreSlots s
+  pub opens : AreOpen base s.last s.active
+  pub slots : AreSlots s.last s.moves
   -- the agenda is what the moves give
   pub moves : s.agenda ≡ agenda_from [] s.moves
-  pub members : AreMembers base s
+  pub members : AreMembers base s.last s.active s.moves s.agenda
   pub order : IsPairwise (IsBefore s.moves) s.agenda
-  pub stands : AllByRecursion (Stands s) s.active
+  pub stands : AllByRecursion (Stands s.agenda s.moves) s.active
   -- the committed members are what the moves commit
   pub committed : IsPermutation (commits_of s.moves) (serial s.agenda)
