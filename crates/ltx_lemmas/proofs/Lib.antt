@@ -5,3 +5,5 @@ pub mod Cells
 pub mod Rising
 pub mod Views
 pub mod Runs
+pub mod Searches
+pub mod Shorts
