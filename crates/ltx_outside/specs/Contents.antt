@@ -1,10 +1,6 @@
 -- What a write does to the bytes of a disk.
 use Rattle.std.specs.Prelude.{ℕ, ◌≡◌, ◌+◌, ◌≤◌, List, ◌++◌, length, take, drop}
 
--- the most bytes that a log may have
-abbrev pub log_limit : ℕ
-log_limit = 1099511627776
-
 -- the bytes with a piece in the place of those from `at` on, lengthened where it ends past them
 abbrev pub overwritten : ℕ → List ℕ → List ℕ → List ℕ
 overwritten at piece bytes = take at bytes ++ piece ++ drop (at + length piece) bytes

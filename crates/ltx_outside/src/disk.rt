@@ -2,7 +2,8 @@
 
 ghost use Rattle.std.specs.Prelude.{◌≡◌, ◌≤◌, ◌+◌, ℕ, List, Option, Some, length, take, drop, IfOk, OnOk, OnErr, IfSome, IsSomeAnd};
 ghost use Rattle.ltx_outside.specs.Faults.{Rose};
-ghost use Rattle.ltx_outside.specs.Contents.{log_limit, overwritten, ChangesWithin};
+ghost use Rattle.ltx_outside.specs.Contents.{overwritten, ChangesWithin};
+ghost use Rattle.ltx_outside.specs.declared.disk.TheConstants.{LOG_LIMIT};
 
 use crate::failed::Failed;
 
@@ -39,7 +40,7 @@ pub trait Disk {
     /// After a failure the bytes in the range of the piece may be any, and the length is the old one at least.
     fn write_at(&mut self, at: u64, piece: &[u8]) -> Result<(), Failed>
         requires within { IfSome (content self.old) (λ bytes. at ≤ length bytes) }
-        requires limit { at + length piece.now ≤ log_limit }
+        requires limit { at + length piece.now ≤ LOG_LIMIT }
         ensures bytes { OnOk result (IfSome (content self.old) (λ bytes. content self.new ≡ Some (overwritten at piece.now bytes))) }
         ensures range { IfSome (content self.old) (λ bytes. IsSomeAnd (content self.new) (ChangesWithin at (length piece.now) bytes)) }
         ensures counted { faults self.old ≤ faults self.new }

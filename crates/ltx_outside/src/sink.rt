@@ -28,11 +28,11 @@ pub trait Sink {
 
 /// Writes the whole of a text, by as many calls of `write` as the sink wants.
 ///
-/// After a failure a front of the text was written, which may be the whole of it.
-/// An empty text makes no call.
+/// After a failure a front of the text was written. An empty text makes no call, so the sink is as before.
 pub fn write_all<K: Sink>(sink: &mut K, text: &[u8]) -> Result<(), Failed>
     ensures whole { OnOk result (Appends (K.written sink.old) (K.written sink.new) text.now) }
     ensures front { (n : ℕ) × (n ≤ length text.now) × Appends (K.written sink.old) (K.written sink.new) (take n text.now) }
+    ensures untouched { length text.now ≡ 0 → sink.new ≡ sink.old }
     ensures counted { K.faults sink.old ≤ K.faults sink.new }
     ensures cause { OnErr result (Rose (K.faults sink.old) (K.faults sink.new)) }
 {

@@ -14,5 +14,6 @@ loop-done-preserved g c =
       front = omega (arith, length-drop done text, ap length rest, some.1);
       written = subst (λ (bs : List ℕ). Appends (g.K.Sink.written c.args.sink.now) (g.K.Sink.written c.write.new.self) bs) (sym (take-add done c.in_ok-count.count text))
           (Appends-trans _ _ _ (take done text) (take c.in_ok-count.count (drop done text)) c.loop-done.invariant.written (rw rest at c.in_ok-count.ensures.taken));
+      untouched = λ none. absurd (omega (arith, some.0, none));
       counted = le_trans c.loop-done.invariant.counted c.in_ok-count.ensures.counted;
     }

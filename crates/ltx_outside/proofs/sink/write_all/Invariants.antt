@@ -1,4 +1,4 @@
-use Rattle.std.proofs.Common.{length, ◌-◌, ◌≤◌, take}
+use Rattle.std.proofs.Common.{length, ◌-◌, ◌≡◌, ◌≤◌, take}
 use Rattle.std.specs.Io.KnownBytes.{Appends}
 use Rattle.ltx_outside.proofs.sink.write_all.Given as goal
 
@@ -7,6 +7,7 @@ abbrev pub invariant-loop-done : goal.invariant-loop-done
 invariant-loop-done g l = record {
   front : l.done ≤ length l.text;
   written : Appends (g.K.Sink.written l.fn.sink) (g.K.Sink.written l.sink) (take l.done l.text);
+  untouched : l.done ≡ 0 → l.sink ≡ l.fn.sink;
   counted : g.K.Sink.faults l.fn.sink ≤ g.K.Sink.faults l.sink;
 }
 
