@@ -4,3 +4,6 @@ pub mod Snapshots
 pub mod Transitions
 pub mod ReadsWitnesses
 pub mod ReadsPlaces
+pub mod ReadsKept
+pub mod ReadsTables
+pub mod ExplainedCommits

@@ -1,6 +1,6 @@
 -- What a batch read from its snapshot it reads at the place where it commits: at its slot, or before its target.
-use Rattle.std.proofs.Common.{◌≡◌, ◌≢◌, ◌⊎◌, inl, inr, ℕ, ◌<◌, Bool, true, false, cond, not, ◌&&◌, ◌==◌, nat_lt, List, [], ◌∷◌, ◌++◌, filter, Option, Some, None, option_map, refl, sym, ap, ◌∙◌, subst, append-nil, arith}
-use Rattle.std.proofs.lemmas.Bool.{and_parts, both_ways, not-true, not-false, not_from_false, ltb-true, eq-eqb, ne_eqb, or_right, false_from_ne_true}
+use Rattle.std.proofs.Common.{◌≡◌, ℕ, Bool, true, false, cond, not, ◌&&◌, List, [], ◌∷◌, ◌++◌, filter, Option, Some, None, option_map, refl, sym, ap, ◌∙◌, subst, append-nil}
+use Rattle.std.proofs.lemmas.Bool.{both_ways, not-false, eq-eqb, ne_eqb, or_right, false_from_ne_true}
 use Rattle.std.specs.List.{find, list_any, AllByRecursion, Contains}
 use Rattle.ltx_model.specs.declared.commands.Op.{Op}
 use Rattle.ltx_model.specs.declared.rows.StoredRow.{StoredRow}
@@ -9,11 +9,11 @@ use Rattle.ltx_model.specs.Keys.{Cell, IsRising}
 use Rattle.ltx_model.specs.StoredRows.{cell_of}
 use Rattle.ltx_model.specs.Operations.{Transaction, operations, cell_of_write, writes_of, writes_key, looks_up_key}
 use Rattle.ltx_model.specs.Rows.{play, run}
-use Rattle.ltx_model.specs.Agenda.{Member, LiveSlot, Committed, number_of, has_number, is_member, serial, part_before, part_from}
-use Rattle.ltx_model.specs.States.{State, LiveBatch, live_batches}
-use Rattle.ltx_model.specs.Batches.{batch_operations, commits_after_slot, committed_ahead, writes_what_looks, preserves_what_looks, overtakes, target, last_writer, last_writer_from, is_from_some, cells_written_by, first_late}
+use Rattle.ltx_model.specs.Agenda.{Member, Committed, number_of, has_number, serial, part_before, part_from}
+use Rattle.ltx_model.specs.States.{State, LiveBatch}
+use Rattle.ltx_model.specs.Batches.{batch_operations, commits_after_slot, committed_ahead, writes_what_looks, overtakes, target, last_writer, last_writer_from, is_from_some, cells_written_by, first_late}
 use Rattle.ltx_lemmas.specs.Places.{is_before, is_at_or_after, AreApart}
-use Rattle.ltx_lemmas.proofs.Lists.{true_false, none_some, some_same, all_from, all_contains, any_not, any_item, any_none_all, any_not_all, any_append, any_contains, filter_append, filter_item, contains_here, contains_front, contains_back, find_none, find_splits, find_passes, find_contains, before_fails, before_past, from_past, parts_join, before_contains}
+use Rattle.ltx_lemmas.proofs.Lists.{none_some, some_same, all_from, all_contains, any_not, any_not_all, any_append, any_contains, filter_append, filter_item, contains_here, contains_front, contains_back, find_none, find_splits, before_fails, before_past, parts_join, before_contains}
 use Rattle.ltx_lemmas.proofs.Members.{same_number, before_asym, apart_tail}
 use Rattle.ltx_lemmas.proofs.Serials.{serial_here, serial_member, serial_append}
 use Rattle.ltx_lemmas.proofs.Runs.{reads_at_place}
@@ -77,9 +77,9 @@ module _ (s : State) (i : LiveBatch) where
       let free : AllByRecursion (λ m. overtakes s i m ≡ false) s.agenda = find_none (overtakes s i) s.agenda (none_mapped number_of (find (overtakes s i) s.agenda) none) in
       ap (λ l. play i.tx.number (run base l) (batch_operations i)) (now ∙ ap (filter (in_snapshot s i.tx.number)) (sym (append-nil front)))
       ∙ reads_at_place i.tx.number base (in_snapshot s i.tx.number) front [] (batch_operations i) rising
-          (λ q looks. all_from (λ t. in_snapshot s i.tx.number t ≡ false → writes_key (operations t) q ≡ false) front (λ t c out.
-          unwritten_ahead t (all_contains (λ m. overtakes s i m ≡ false) s.agenda (Committed t) free (before_contains (has_number i.tx.number) s.agenda (Committed t) (serial_member (part_before i.tx.number s.agenda) t c))) out (before_slot t c) q looks))
-          (λ q looks. tt)
+      (λ q looks. all_from (λ t. in_snapshot s i.tx.number t ≡ false → writes_key (operations t) q ≡ false) front (λ t c out.
+      unwritten_ahead t (all_contains (λ m. overtakes s i m ≡ false) s.agenda (Committed t) free (before_contains (has_number i.tx.number) s.agenda (Committed t) (serial_member (part_before i.tx.number s.agenda) t c))) out (before_slot t c) q looks))
+      (λ q looks. tt)
 
   -- Before a target: it is the first that is overtaken, and no late witness stands there.
   pub reads_before : (base : List StoredRow) (p : ℕ) → IsRising cell_of base → AreApart s.agenda → i.snapshot ≡ filter (in_snapshot s i.tx.number) (serial (part_before i.tx.number s.agenda))

@@ -1,18 +1,17 @@
 -- Where no witness stands at a place: no looked-up key has its last writer there or later, and no reader there sees what the batch writes.
-use Rattle.std.proofs.Common.{◌≡◌, ◌⊎◌, inl, inr, ℕ, ◌+◌, Bool, true, false, cond, not, ◌&&◌, ◌||◌, ◌==◌, List, [], ◌∷◌, ◌++◌, Option, Some, None, option_map, option_and_then, refl, sym, ap, ◌∙◌, subst}
-use Rattle.std.proofs.lemmas.Bool.{and_parts, both_ways}
-use Rattle.std.specs.List.{find, list_any, AllByRecursion, Contains}
+use Rattle.std.proofs.Common.{◌≡◌, ℕ, ◌+◌, Bool, true, false, ◌&&◌, ◌||◌, List, [], ◌∷◌, ◌++◌, Option, Some, None, option_map, option_and_then, refl, sym, ap, ◌∙◌, subst}
+use Rattle.std.proofs.lemmas.Bool.{and_parts}
+use Rattle.std.specs.List.{find, list_any, Contains}
 use Rattle.ltx_model.specs.declared.commands.Op.{Op}
-use Rattle.ltx_model.specs.declared.commands.Op.TheVariants.{Get, Scan, Put, Del}
 use Rattle.ltx_model.specs.declared.writes.Write.{Write}
 use Rattle.ltx_model.specs.Lists.{Numbered, numbered_from, numbered}
-use Rattle.ltx_model.specs.Keys.{Cell, same_cell}
-use Rattle.ltx_model.specs.Operations.{Transaction, write_of, cell_of_write, is_write_at, writes_at, writes_key, unless_written, first_of_key, first_write, looks_up, looks_up_key}
+use Rattle.ltx_model.specs.Keys.{Cell}
+use Rattle.ltx_model.specs.Operations.{write_of, cell_of_write, is_write_at, writes_at, writes_key, unless_written, first_of_key, first_write, looks_up, looks_up_key}
 use Rattle.ltx_model.specs.Agenda.{serial, part_from}
 use Rattle.ltx_model.specs.States.{State, LiveBatch}
-use Rattle.ltx_model.specs.Batches.{batch_operations, Witness, Refusal, late_or, last_writer, is_from_some, is_late_key, late_witness, late_of, first_late, cells_written_by, contradicted, contradicted_write, contradicts_of, first_contradicted, first_witness}
+use Rattle.ltx_model.specs.Batches.{batch_operations, Witness, late_or, last_writer, is_from_some, is_late_key, late_witness, late_of, first_late, cells_written_by, contradicted, contradicted_write, contradicts_of, first_contradicted}
 use Rattle.ltx_lemmas.proofs.Lists.{true_false, none_some, all_contains, find_passes, any_item, contains_here, contains_later}
-use Rattle.ltx_lemmas.proofs.Cells.{same_cell_same, same_cell_from}
+use Rattle.ltx_lemmas.proofs.Cells.{same_cell_same}
 use Rattle.ltx_lemmas.proofs.Searches.{first_none, is_in, none_passes}
 
 -- no refusal: neither a late witness nor a contradicted one
