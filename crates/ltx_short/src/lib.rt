@@ -1,0 +1,4 @@
+//! An open short transaction: what it noted of its operations.
+#![tactic(auto)]
+
+pub mod short;
