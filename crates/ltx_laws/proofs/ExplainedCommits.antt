@@ -1,5 +1,6 @@
 -- Each kind of commit: the serial order with the committed one in its place gives every committed transaction its replies.
 use Rattle.std.proofs.Common.{◌≡◌, ◌≢◌, ◌⊎◌, inl, inr, ℕ, ◌<◌, ◌≤◌, true, false, List, [], ◌∷◌, ◌++◌, map, Some, None, refl, sym, ap, ◌∙◌, subst, append-nil}
+use Rattle.std.proofs.lemmas.Bool.{both_ways}
 use Rattle.std.specs.List.{AllByRecursion, Contains}
 use Rattle.ltx_model.specs.declared.rows.StoredRow.{StoredRow}
 use Rattle.ltx_model.specs.Tables.{has_table}
@@ -16,7 +17,7 @@ use Rattle.ltx_model.specs.Batches.{target, first_witness, first_late, first_con
 use Rattle.ltx_lemmas.specs.Places.{is_before}
 use Rattle.ltx_lemmas.specs.Sources.{AreSourced}
 use Rattle.ltx_lemmas.proofs.Lists.{all_map, all_find, all_without, all_from, all_contains, contains_parts, contains_front, contains_back, contains_later}
-use Rattle.ltx_lemmas.proofs.Members.{apart_one}
+use Rattle.ltx_lemmas.proofs.Members.{apart_one, before_member, before_self}
 use Rattle.ltx_lemmas.proofs.Serials.{serial_member, serial_push, serial_parts, serial_home, serial_before}
 use Rattle.ltx_lemmas.proofs.Rising.{rising_run}
 use Rattle.ltx_lemmas.proofs.Runs.{inserted, unseen, run_sourced, writer_fixes}
@@ -108,14 +109,16 @@ module _ (base : Base) (s : State) (structure : Structure base s) (sound : IsSou
         r
 
     -- a batch before its target
-    pub before_placed : (p : ℕ) → target s (live_of o d snapshot) ≡ Some p → is_before s.agenda p o.number ≡ true → is_member s.agenda p ≡ true → p ≢ o.number → first_witness s (live_of o d snapshot) p ≡ None
+    pub before_placed : (p : ℕ) → target s (live_of o d snapshot) ≡ Some p → is_before s.agenda p o.number ≡ true → first_witness s (live_of o d snapshot) p ≡ None
         → Reads base.rows (moved (closed s session) s.epoch (CommitBefore (transaction_of o) p))
-    before_placed p aim ahead here other none =
+    before_placed p aim ahead none =
         let t = transaction_of o in
         let i = live_of o d snapshot in
         let apart = apart_members base s structure in
         let front = serial (part_before p s.agenda) in
         let back = serial (part_from p s.agenda) in
+        let here : is_member s.agenda p ≡ true = before_member s.agenda p o.number ahead in
+        let other : p ≢ o.number = λ same. both_ways (is_before s.agenda p p) (before_self s.agenda p) (subst (λ n. is_before s.agenda p n ≡ true) (sym same) ahead) in
         let free = no_witness (first_late s i p) (first_contradicted s i p) none in
         let own : play o.number (run base.rows front) (operations t) ≡ map (λ a. a.reply) t.answered = sym (reads_before s i base.rows p sound.rising apart live.now aim ahead free.0) ∙ from_snapshot in
         placed base.rows s (moved (closed s session) s.epoch (CommitBefore t p)) session t front back sound.rising

@@ -7,3 +7,4 @@ pub mod ReadsPlaces
 pub mod ReadsKept
 pub mod ReadsTables
 pub mod ExplainedCommits
+pub mod Explained
