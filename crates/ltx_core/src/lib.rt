@@ -1,0 +1,9 @@
+//! One event of the engine at a time: a command, its reply and the state after it.
+#![tactic(auto)]
+
+mod change;
+mod rows;
+mod short;
+mod step;
+
+pub use step::Core;
