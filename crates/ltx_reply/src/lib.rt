@@ -1,0 +1,5 @@
+//! Replies: the one text of each, printed and read.
+#![tactic(auto)]
+
+pub mod pieces;
+pub mod print;
