@@ -8,3 +8,4 @@ pub mod ReadsKept
 pub mod ReadsTables
 pub mod ExplainedCommits
 pub mod Explained
+pub mod ExplainedStable

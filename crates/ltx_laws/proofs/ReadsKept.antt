@@ -159,7 +159,7 @@ slots_active epoch s (o ∷ os) = slots_active epoch (slot_after epoch s o.kind 
   by_kind (IsPending d) = refl
   by_kind (IsLive d snapshot) = refl
 
-slots_serial : (epoch : ℕ) (s : State) (os : List Active) → serial (slots_after epoch s os).agenda ≡ serial s.agenda
+pub slots_serial : (epoch : ℕ) (s : State) (os : List Active) → serial (slots_after epoch s os).agenda ≡ serial s.agenda
 slots_serial epoch s [] = refl
 slots_serial epoch s (o ∷ os) = slots_serial epoch (slot_after epoch s o.kind o.number) os ∙ by_kind o.kind where
   by_kind : (k : Kind) → serial (slot_after epoch s k o.number).agenda ≡ serial s.agenda

@@ -421,3 +421,19 @@ module _ {A : Type 0} (test : A → Bool) where
         → cond b xs (x ∷ without_first test xs) ≡ cond (not b) (x ∷ filter (λ x. not (test x)) xs) (filter (λ x. not (test x)) xs)
     by_test true is all later = sym (filter_all (λ x. not (test x)) xs (all_map (λ x. test x ≡ false) (λ x. not (test x) ≡ true) (λ x e. ap not e) xs all))
     by_test false is all later = ap (λ l. x ∷ l) (later all.1)
+
+-- an item of a mapped list
+module _ {A B : Type 0} where
+  pub map_item : (f : A → B) (xs : List A) (y : B) → Contains (map f xs) y → (x : A) × Contains xs x × (f x ≡ y)
+  map_item f [] y c = absurd (contains_none y c)
+  map_item f (x ∷ xs) y c = by_place (contains_cases (f x) (map f xs) y c) (map_item f xs y) where
+    by_place : (f x ≡ y) ⊎ Contains (map f xs) y → (Contains (map f xs) y → (z : A) × Contains xs z × (f z ≡ y)) → (z : A) × Contains (x ∷ xs) z × (f z ≡ y)
+    by_place (inl e) later = (x, contains_here x xs, e)
+    by_place (inr d) later = let r = later d in (r.0, contains_later x xs r.0 r.1, r.2)
+
+  pub map_here : (f : A → B) (xs : List A) (x : A) → Contains xs x → Contains (map f xs) (f x)
+  map_here f [] x c = absurd (contains_none x c)
+  map_here f (y ∷ ys) x c = by_place (contains_cases y ys x c) (map_here f ys x) where
+    by_place : (y ≡ x) ⊎ Contains ys x → (Contains ys x → Contains (map f ys) (f x)) → Contains (f y ∷ map f ys) (f x)
+    by_place (inl e) later = subst (λ z. Contains (f z ∷ map f ys) (f x)) (sym e) (contains_here (f x) (map f ys))
+    by_place (inr d) later = contains_later (f y) (map f ys) (f x) (later d)

@@ -1,0 +1,9 @@
+-- Places in an order of numbers.
+use Rattle.std.specs.Prelude.{◌≡◌, ℕ, true, ◌==◌, List}
+use Rattle.std.specs.List.{list_any}
+use Rattle.ltx_model.specs.Lists.{before_first}
+
+-- a stands before b: both are in the list, and a is among those before the first b
+pub record StandsBefore (numbers : List ℕ) (a b : ℕ) : Type 0 where
+  pub member : list_any (λ n. n == b) numbers ≡ true
+  pub before : list_any (λ n. n == a) (before_first (λ n. n == b) numbers) ≡ true
