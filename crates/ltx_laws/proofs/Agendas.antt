@@ -12,6 +12,10 @@ pub or_false : (a : Bool) → (a || false) ≡ a
 or_false true = refl
 or_false false = refl
 
+pub or_true : (a : Bool) → (a || true) ≡ true
+or_true true = refl
+or_true false = refl
+
 pub or_left : (a b : Bool) → a ≡ true → (a || b) ≡ true
 or_left a b e = rw e refl
 
@@ -55,10 +59,7 @@ pub commits_after_more : (moves : List Timed) (m : Timed) (n c : ℕ) → has_sl
 commits_after_more moves m n c e not = ap (list_any (λ m. commits_batch c m.move)) (since_more n moves (m ∷ []) e) ∙ any_push_not (λ m. commits_batch c m.move) (moves_since n moves) m not
 
 pub commits_after_now : (moves : List Timed) (m : Timed) (n c : ℕ) → has_slot moves n ≡ true → commits_batch c m.move ≡ true → commits_after (moves ++ m ∷ []) n c ≡ true
-commits_after_now moves m n c e is = ap (list_any (λ m. commits_batch c m.move)) (since_more n moves (m ∷ []) e) ∙ any_push (λ m. commits_batch c m.move) (moves_since n moves) m ∙ rw is (or_true (commits_after moves n c)) where
-  or_true : (a : Bool) → (a || true) ≡ true
-  or_true true = refl
-  or_true false = refl
+commits_after_now moves m n c e is = ap (list_any (λ m. commits_batch c m.move)) (since_more n moves (m ∷ []) e) ∙ any_push (λ m. commits_batch c m.move) (moves_since n moves) m ∙ rw is (or_true (commits_after moves n c))
 
 -- members
 pub number_home : (t : Transaction) (m : Member) → number_of (commit_at_slot t m) ≡ number_of m

@@ -1,6 +1,11 @@
 pub mod Agendas
 pub mod Pairs
+pub mod Places
 pub mod Snapshots
+pub mod Standing
+pub mod StructureMoves
+pub mod Targets
+pub mod StructureOpens
 pub mod Transitions
 pub mod ReadsWitnesses
 pub mod ReadsPlaces

@@ -46,6 +46,10 @@ module _ {A : Type 0} where
   pairs_weaken P R Q f [] all pairs = tt
   pairs_weaken P R Q f (x ∷ xs) all pairs = (all_both P (R x) (Q x) (λ y p r. f x y all.0 p r) xs all.1 pairs.0, pairs_weaken P R Q f xs all.1 pairs.1)
 
+  pub pairs_all : (R Q : A → A → Type 0) → ((x y : A) → R x y → Q x y) → (xs : List A) → IsPairwise R xs → IsPairwise Q xs
+  pairs_all R Q f [] pairs = tt
+  pairs_all R Q f (x ∷ xs) pairs = (all_map (R x) (Q x) (f x) xs pairs.0, pairs_all R Q f xs pairs.1)
+
   pub pairs_push : (R : A → A → Type 0) (xs : List A) (y : A) → AllByRecursion (λ x. R x y) xs → IsPairwise R xs → IsPairwise R (xs ++ y ∷ [])
   pairs_push R [] y all pairs = (tt, tt)
   pairs_push R (x ∷ xs) y all pairs = (all_push (R x) xs y pairs.0 all.0, pairs_push R xs y all.1 pairs.1)

@@ -70,11 +70,11 @@ pub record AreMembers (base : Base) (last : ℕ) (active : List Active) (moves :
   pub bound : AllByRecursion (λ m. number_of m ≤ last) agenda
   pub known : AllByRecursion (IsKnown active moves) agenda
 
--- Of two members of the agenda, the first one before the second: they have different numbers, and of two batches that stand
+-- Of the numbers of two members of the agenda, the first one before the second: they are different, and of two batches that stand
 -- against their numbers the one with the greater number, which stands first, was forwarded.
-pub record IsBefore (moves : List Timed) (x y : Member) : Type 0 where
-  pub apart : number_of x ≢ number_of y
-  pub elder : has_slot moves (number_of x) ≡ true → has_slot moves (number_of y) ≡ true → number_of y < number_of x → is_forwarded moves (number_of x) ≡ true
+pub record IsBefore (moves : List Timed) (a b : ℕ) : Type 0 where
+  pub apart : a ≢ b
+  pub elder : has_slot moves a ≡ true → has_slot moves b ≡ true → b < a → is_forwarded moves a ≡ true
 
 -- A short that is open: its number is no member's, and never was a slot's.
 pub record IsOpenShort (agenda : List Member) (moves : List Timed) (n : ℕ) : Type 0 where
@@ -115,7 +115,7 @@ pub record Structure (base : Base) (s : State) : Type 0 where
   -- the agenda is what the moves give
   pub moves : s.agenda ≡ agenda_from [] s.moves
   pub members : AreMembers base s.last s.active s.moves s.agenda
-  pub order : IsPairwise (IsBefore s.moves) s.agenda
+  pub order : IsPairwise (λ x y. IsBefore s.moves (number_of x) (number_of y)) s.agenda
   pub stands : AllByRecursion (Stands s.agenda s.moves) s.active
   -- the committed members are what the moves commit
   pub committed : IsPermutation (commits_of s.moves) (serial s.agenda)
