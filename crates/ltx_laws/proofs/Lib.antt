@@ -6,6 +6,8 @@ pub mod Standing
 pub mod StructureMoves
 pub mod Targets
 pub mod StructureOpens
+pub mod StructureSlots
+pub mod Structures
 pub mod Transitions
 pub mod ReadsWitnesses
 pub mod ReadsPlaces
