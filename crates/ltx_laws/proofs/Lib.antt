@@ -8,6 +8,7 @@ pub mod Targets
 pub mod StructureOpens
 pub mod StructureSlots
 pub mod Structures
+pub mod Told
 pub mod Transitions
 pub mod ReadsWitnesses
 pub mod ReadsPlaces

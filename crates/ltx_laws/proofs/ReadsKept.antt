@@ -68,10 +68,10 @@ pub all_read_more : (base : List StoredRow) (ts more : List Transaction) → ((t
 all_read_more base ts more sub active all = all_map (IsRead base ts) (IsRead base more) (λ o. read_more base ts more sub o.kind o.number o.steps) active all
 
 -- the structure's members have numbers of their own
-pub agenda_apart : (moves : List Timed) (ms : List Member) → IsPairwise (IsBefore moves) ms → AreApart ms
+pub agenda_apart : (moves : List Timed) (ms : List Member) → IsPairwise (λ x y. IsBefore moves (number_of x) (number_of y)) ms → AreApart ms
 agenda_apart moves [] pairs = tt
 agenda_apart moves (m ∷ ms) pairs = apart_from m ms (new ms pairs.0) (agenda_apart moves ms pairs.1) where
-  new : (xs : List Member) → AllByRecursion (IsBefore moves m) xs → is_member xs (number_of m) ≡ false
+  new : (xs : List Member) → AllByRecursion (λ y. IsBefore moves (number_of m) (number_of y)) xs → is_member xs (number_of m) ≡ false
   new [] all = refl
   new (x ∷ xs) all = ap (λ b. b || is_member xs (number_of m)) (ne_eqb (number_of x) (number_of m) (λ same. all.0.apart (sym same))) ∙ new xs all.1
 
