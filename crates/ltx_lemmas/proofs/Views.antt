@@ -11,6 +11,7 @@ use Rattle.ltx_model.specs.Keys.{Cell, same_cell, in_range, IsRising}
 use Rattle.ltx_model.specs.StoredRows.{cell_of, row_at}
 use Rattle.ltx_model.specs.Operations.{Answered, Transaction, operations, writes_at, covers, looks_up, looks_up_key, writes_key}
 use Rattle.ltx_model.specs.Rows.{row_of, rows_after, rows_after_all, reply_on, found, see, play}
+use Rattle.ltx_lemmas.specs.Plays.{AreSeen}
 use Rattle.ltx_lemmas.proofs.Lists.{true_false}
 use Rattle.ltx_lemmas.proofs.Cells.{row_at-put, row_at-without, same_cell_refl}
 use Rattle.ltx_lemmas.proofs.Rising.{rising_after_all, same_filter}
@@ -114,11 +115,6 @@ pub play_push : (n : ℕ) (rows : List StoredRow) (ops : List Op) (op : Op) → 
 unfolding see
 play_push n rows [] op = refl
 play_push n rows (x ∷ xs) op = ap (λ l. reply_on rows x ∷ l) (play_push n (rows_after n rows x) xs op)
-
--- each reply is what the transaction sees on the rows after these operations
-abbrev pub AreSeen : ℕ → List StoredRow → List Op → List Answered → Type 0
-AreSeen n rows earlier [] = Unit {0}
-AreSeen n rows earlier (a ∷ as') = (see n rows earlier a.op ≡ a.reply) × AreSeen n rows (earlier ++ a.op ∷ []) as'
 
 play_seen_from : (n : ℕ) (rows : List StoredRow) (earlier : List Op) (as' : List Answered) → AreSeen n rows earlier as' → play n (rows_after_all n rows earlier) (map (λ a. a.op) as') ≡ map (λ a. a.reply) as'
 unfolding see
