@@ -67,6 +67,7 @@ fn place_of(active: &[Short], session: Session) -> Option<usize>
     None
 }
 
+// One operation more for the short at a place.
 fn note_at(active: &mut Vec<Short>, place: usize, noted: Noted) -> Result<(), NoMemory>
     requires within { place < length active.old.items }
     requires room { (a : ShortView) → a ≡ slice_index_or active.old.items place a → length a.notes < 65536 }
@@ -91,6 +92,7 @@ fn changed(change: Change) -> Reply
 }
 
 impl Core {
+    // A short begins, where the session has no open transaction and there is a number left.
     fn begin(&mut self, session: Session) -> Result<Reply, NoMemory>
         ensures ok { IfOk result (λ reply. record { reply = reply; core = self.new } ≡ begin self.old session (short_of self.old session)) }
         ensures err { OnErr result (self.new ≡ self.old) }
@@ -108,6 +110,7 @@ impl Core {
         }
     }
 
+    // An operation of the session's short: its reply, by its own operations over the latest rows.
     fn operate(&mut self, session: Session, op: &Op) -> Result<Reply, NoMemory>
         requires plain { is_scan op.now ≡ false }
         ensures ok { IfOk result (λ reply. record { reply = reply; core = self.new } ≡ operate self.old session (short_of self.old session) op.now) }
@@ -131,6 +134,7 @@ impl Core {
         }
     }
 
+    // The session's short commits, or is refused by its first look-up that has changed.
     fn commit(&mut self, session: Session) -> Result<Reply, NoMemory>
         ensures ok { IfOk result (λ reply. record { reply = reply; core = self.new } ≡ commit self.old session (short_of self.old session)) }
         ensures err { OnErr result (self.new ≡ self.old) }
@@ -166,6 +170,7 @@ impl Core {
         Ok(Reply::Committed { epoch: self.epoch })
     }
 
+    // The session's short is given up.
     fn abort(&mut self, session: Session) -> Reply
         ensures { record { reply = result; core = self.new } ≡ abort self.old session (short_of self.old session) }
     {
@@ -178,6 +183,7 @@ impl Core {
         }
     }
 
+    // The next epoch, where there is one.
     fn advance(&mut self) -> Reply
         ensures { record { reply = result; core = self.new } ≡ advance self.old }
     {
@@ -252,30 +258,30 @@ impl Core {
         self.apply(command)
     }
 
-    /// The committed transactions in the serial order.
+    /// The committed transactions in the serial order, as a copy of the list that the core keeps.
     pub fn order(&self) -> Result<Vec<Tx>, NoMemory>
-        ensures { IfOk result (λ txs. (base : Base) (history : List Entry) → StandsFor self.now base history → txs.items ≡ order (state base history)) }
+        ensures value { IfOk result (λ txs. (base : Base) (history : List Entry) → StandsFor self.now base history → txs.items ≡ order (state base history)) }
     {
         Ok(self.order.clone()?)
     }
 
     /// The current epoch.
     pub fn epoch(&self) -> u32
-        ensures { (base : Base) (history : List Entry) → StandsFor self.now base history → result ≡ (state base history).epoch }
+        ensures value { (base : Base) (history : List Entry) → StandsFor self.now base history → result ≡ (state base history).epoch }
     {
         self.epoch
     }
 
     /// The epoch through which everything is durable.
     pub fn durable(&self) -> u32
-        ensures { (base : Base) (history : List Entry) → StandsFor self.now base history → result ≡ (state base history).durable }
+        ensures value { (base : Base) (history : List Entry) → StandsFor self.now base history → result ≡ (state base history).durable }
     {
         self.durable
     }
 
     /// Whether the session has an open transaction.
     pub fn has_tx(&self, session: Session) -> bool
-        ensures { (base : Base) (history : List Entry) → StandsFor self.now base history → result ≡ is_some (active_of (state base history) session) }
+        ensures value { (base : Base) (history : List Entry) → StandsFor self.now base history → result ≡ is_some (active_of (state base history) session) }
     {
         place_of(&self.active, session).is_some()
     }
