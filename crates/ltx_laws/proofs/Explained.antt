@@ -10,10 +10,12 @@ use Rattle.ltx_model.specs.States.{Declaration, IsShort, IsPending, IsLive, Acti
 use Rattle.ltx_model.specs.Batches.{target}
 use Rattle.ltx_model.specs.Explained.{IsDistinct, IsExplained, committed_in}
 use Rattle.ltx_lemmas.specs.Places.{is_before, AreApart}
+use Rattle.ltx_lemmas.proofs.Lists.{all_contains}
 use Rattle.ltx_lemmas.proofs.Members.{apart_tail}
-use Rattle.ltx_laws.specs.Structure.{Structure}
+use Rattle.ltx_laws.specs.Structure.{IsKnown, IsSlotOfLive, Structure}
 use Rattle.ltx_laws.proofs.Transitions.{Cases, live_of}
-use Rattle.ltx_laws.proofs.ReadsKept.{Reads, agenda_apart, begun_reads, short_reads, batch_reads, ended_reads, advanced_reads, durable_reads}
+use Rattle.ltx_laws.proofs.Targets.{target_ahead}
+use Rattle.ltx_laws.proofs.ReadsKept.{Reads, agenda_apart, live_batch, live_slot, begun_reads, short_reads, batch_reads, ended_reads, advanced_reads, durable_reads}
 use Rattle.ltx_laws.proofs.ExplainedCommits.{short_placed, home_placed, before_placed}
 
 -- No committed transaction that stands after an open live batch looks into a table that the batch preserves.
@@ -24,6 +26,12 @@ IsUnread s = (session : ℕ) (o : Active) (d : Declaration) (snapshot : List Tra
 -- The target of an open live batch stands before it.
 abbrev pub AreAhead : State → Type 0
 AreAhead s = (session : ℕ) (o : Active) (d : Declaration) (snapshot : List Transaction) (p : ℕ) → active_of s session ≡ Some o → o.kind ≡ IsLive d snapshot → target s (live_of o d snapshot) ≡ Some p → is_before s.agenda p o.number ≡ true
+
+pub are_ahead : (base : Base) (s : State) → Structure base s → AreAhead s
+are_ahead base s structure session o d snapshot p is kind aim =
+    let live = live_batch base s structure session o d snapshot is kind in
+    let slot : IsSlotOfLive s.active s.moves o.number = all_contains (IsKnown s.active s.moves) s.agenda (LiveSlot o.number) structure.members.known (live_slot base s structure session o d snapshot is kind) in
+    target_ahead base s structure (live_of o d snapshot) live.slotted live.member slot.unforwarded p aim
 
 -- what each entry of a legal history leaves
 pub reads_cases : (base : Base) (s : State) → IsSound base → Structure base s → IsUnread s → AreAhead s → Reads base.rows s → Cases s (λ line reply after. Reads base.rows after)

@@ -81,7 +81,7 @@ module _ (base : Base) (s : State) (session : ℕ) (o : Active) (inv : Structure
 
     keeps_by : (agenda' : List Member) → ((n : ℕ) → o.number ≢ n → is_member agenda' n ≡ is_member s.agenda n)
         → ((n : ℕ) → o.number ≢ n → has_slot s.moves n ≡ true → is_member s.agenda n ≡ true
-            → filter (λ t. not (commits_after later n t.number)) (serial (part_before n agenda')) ≡ filter (λ t. not (commits_after s.moves n t.number)) (serial (part_before n s.agenda)))
+        → filter (λ t. not (commits_after later n t.number)) (serial (part_before n agenda')) ≡ filter (λ t. not (commits_after s.moves n t.number)) (serial (part_before n s.agenda)))
         → Keeps o.number s.agenda s.moves agenda' later
     keeps_by agenda' members passing = record {
       slots = λ n e. slots_same n;
@@ -115,12 +115,12 @@ module _ (base : Base) (s : State) (session : ℕ) (o : Active) (inv : Structure
       let new : Member = Committed tx in
       let apart : AllByRecursion (λ x. number_of x ≢ o.number) s.agenda = not_member s.agenda o.number fresh in
       let passing : (n : ℕ) → o.number ≢ n → has_slot s.moves n ≡ true → is_member s.agenda n ≡ true
-          → filter (λ t. not (commits_after (later m plain) n t.number)) (serial (part_before n (s.agenda ++ new ∷ []))) ≡ filter (λ t. not (commits_after s.moves n t.number)) (serial (part_before n s.agenda))
-          = λ n e slotted member. ap (λ l. filter (λ t. not (commits_after (later m plain) n t.number)) (serial l)) (part_push n s.agenda new member)
-              ∙ filter_same (λ t. not (commits_after (later m plain) n t.number)) (λ t. not (commits_after s.moves n t.number)) (serial (part_before n s.agenda))
-                  (all_of (λ t. not (commits_after (later m plain) n t.number) ≡ not (commits_after s.moves n t.number)) (λ t. after_same m plain n t.number slotted refl) (serial (part_before n s.agenda))) in
+      → filter (λ t. not (commits_after (later m plain) n t.number)) (serial (part_before n (s.agenda ++ new ∷ []))) ≡ filter (λ t. not (commits_after s.moves n t.number)) (serial (part_before n s.agenda))
+      = λ n e slotted member. ap (λ l. filter (λ t. not (commits_after (later m plain) n t.number)) (serial l)) (part_push n s.agenda new member)
+      ∙ filter_same (λ t. not (commits_after (later m plain) n t.number)) (λ t. not (commits_after s.moves n t.number)) (serial (part_before n s.agenda))
+      (all_of (λ t. not (commits_after (later m plain) n t.number) ≡ not (commits_after s.moves n t.number)) (λ t. after_same m plain n t.number slotted refl) (serial (part_before n s.agenda))) in
       let fresh_last : (y : Member) → number_of y ≢ o.number → IsBefore (later m plain) (number_of y) o.number
-          = λ y ne. record { apart = ne; elder = λ a b lt. absurd (let clash : true ≡ false = sym b ∙ slots_same m plain o.number ∙ unslotted in let none : ⊥ = cc in none) } in
+      = λ y ne. record { apart = ne; elder = λ a b lt. absurd (let clash : true ≡ false = sym b ∙ slots_same m plain o.number ∙ unslotted in let none : ⊥ = cc in none) } in
       record {
         rows = inv.rows;
         last = inv.last;
@@ -132,7 +132,7 @@ module _ (base : Base) (s : State) (session : ℕ) (o : Active) (inv : Structure
           bound = all_push (λ x. number_of x ≤ s.last) s.agenda new inv.members.bound bound;
           known = all_push (IsKnown rest (later m plain)) s.agenda new
               (all_both (λ x. number_of x ≢ o.number) (IsKnown s.active s.moves) (IsKnown rest (later m plain))
-                  (known_on s.active session o is s.moves (later m plain) (λ n e. slots_same m plain n) (λ n e. any_push_not (λ x. forwards n x.move) s.moves m refl)) s.agenda apart inv.members.known)
+              (known_on s.active session o is s.moves (later m plain) (λ n e. slots_same m plain n) (λ n e. any_push_not (λ x. forwards n x.move) s.moves m refl)) s.agenda apart inv.members.known)
               (all_map (λ u. o.number ≢ u.number) (λ u. u.number ≢ o.number) (λ u ne e. ne (sym e)) rest apart_rest);
         };
         order = pairs_push (λ x y. IsBefore (later m plain) (number_of x) (number_of y)) s.agenda new (all_map (λ x. number_of x ≢ o.number) (λ x. IsBefore (later m plain) (number_of x) o.number) fresh_last s.agenda apart)
@@ -166,12 +166,12 @@ module _ (base : Base) (s : State) (session : ℕ) (o : Active) (inv : Structure
         let plain : (n : ℕ) → is_slot n m.move ≡ false = λ n. refl in
         let home : Member → Member = commit_at_slot tx in
         let numbers : (P : ℕ → Type 0) → AllByRecursion (λ x. P (number_of x)) s.agenda → AllByRecursion (λ x. P (number_of x)) (map home s.agenda)
-            = λ P all. all_mapped (λ x. P (number_of x)) home s.agenda (all_map (λ x. P (number_of x)) (λ x. P (number_of (home x))) (λ x p. subst P (sym (number_home tx x)) p) s.agenda all) in
+        = λ P all. all_mapped (λ x. P (number_of x)) home s.agenda (all_map (λ x. P (number_of x)) (λ x. P (number_of (home x))) (λ x p. subst P (sym (number_home tx x)) p) s.agenda all) in
         let known : (x : Member) → IsKnown s.active s.moves x → IsKnown rest (later m plain) (home x) = λ x h. home_known m plain (λ n. refl) x h in
         let passing : (n : ℕ) → o.number ≢ n → has_slot s.moves n ≡ true → is_member s.agenda n ≡ true
-            → filter (λ t. not (commits_after (later m plain) n t.number)) (serial (part_before n (map home s.agenda))) ≡ filter (λ t. not (commits_after s.moves n t.number)) (serial (part_before n s.agenda))
-            = λ n e slot at. passing_home o.number n e (λ t. not (commits_after s.moves n t.number)) (λ t. not (commits_after (later m plain) n t.number))
-                (λ u ne. after_same m plain n u.number slot (other_number u.number ne)) tx refl (ap not (commits_after_now s.moves m n o.number slot (eq-eqb o.number o.number refl))) s.agenda others in
+        → filter (λ t. not (commits_after (later m plain) n t.number)) (serial (part_before n (map home s.agenda))) ≡ filter (λ t. not (commits_after s.moves n t.number)) (serial (part_before n s.agenda))
+        = λ n e slot at. passing_home o.number n e (λ t. not (commits_after s.moves n t.number)) (λ t. not (commits_after (later m plain) n t.number))
+        (λ u ne. after_same m plain n u.number slot (other_number u.number ne)) tx refl (ap not (commits_after_now s.moves m n o.number slot (eq-eqb o.number o.number refl))) s.agenda others in
         record {
           rows = inv.rows;
           last = inv.last;
@@ -208,8 +208,8 @@ module _ (base : Base) (s : State) (session : ℕ) (o : Active) (inv : Structure
         let plain : (n : ℕ) → is_slot n m.move ≡ false = λ n. refl in
         let less : List Member = without_member s.agenda o.number in
         let passing : (n : ℕ) → o.number ≢ n → has_slot s.moves n ≡ true → is_member s.agenda n ≡ true
-            → filter (λ t. not (commits_after (later m plain) n t.number)) (serial (part_before n less)) ≡ filter (λ t. not (commits_after s.moves n t.number)) (serial (part_before n s.agenda))
-            = λ n e slot at. passing_without o.number n e (λ t. not (commits_after s.moves n t.number)) (λ t. not (commits_after (later m plain) n t.number)) (λ u ne. after_same m plain n u.number slot refl) s.agenda others in
+        → filter (λ t. not (commits_after (later m plain) n t.number)) (serial (part_before n less)) ≡ filter (λ t. not (commits_after s.moves n t.number)) (serial (part_before n s.agenda))
+        = λ n e slot at. passing_without o.number n e (λ t. not (commits_after s.moves n t.number)) (λ t. not (commits_after (later m plain) n t.number)) (λ u ne. after_same m plain n u.number slot refl) s.agenda others in
         record {
           rows = inv.rows;
           last = inv.last;
@@ -238,15 +238,15 @@ module _ (base : Base) (s : State) (session : ℕ) (o : Active) (inv : Structure
         let here : is_member less p ≡ true = member_without p o.number apart s.agenda ∙ there in
         let forwarded : is_forwarded (later m plain) o.number ≡ true = any_push (λ x. forwards o.number x.move) s.moves m ∙ ap (λ b. is_forwarded s.moves o.number || b) (eq-eqb o.number o.number refl) ∙ or_true (is_forwarded s.moves o.number) in
         let front : AllByRecursion (λ y. IsBefore (later m plain) (number_of y) o.number) (part_before p less)
-            = before_without (λ y. IsBefore (later m plain) (number_of y) o.number) p o.number apart s.agenda
-                (in_front (IsBefore (later m plain)) o.number p s.agenda (order_later m plain s.agenda inv.order) member ahead) in
+        = before_without (λ y. IsBefore (later m plain) (number_of y) o.number) p o.number apart s.agenda
+        (in_front (IsBefore (later m plain)) o.number p s.agenda (order_later m plain s.agenda inv.order) member ahead) in
         let back : AllByRecursion (λ y. IsBefore (later m plain) o.number (number_of y)) (part_from p less)
-            = all_from_first (λ y. IsBefore (later m plain) o.number (number_of y)) (has_number p) less
-                (all_map (λ y. number_of y ≢ o.number) (λ y. IsBefore (later m plain) o.number (number_of y)) (λ y ne. record { apart = λ e. ne (sym e); elder = λ a b lt. forwarded }) less (gone o.number s.agenda)) in
+        = all_from_first (λ y. IsBefore (later m plain) o.number (number_of y)) (has_number p) less
+        (all_map (λ y. number_of y ≢ o.number) (λ y. IsBefore (later m plain) o.number (number_of y)) (λ y ne. record { apart = λ e. ne (sym e); elder = λ a b lt. forwarded }) less (gone o.number s.agenda)) in
         let passing : (n : ℕ) → o.number ≢ n → has_slot s.moves n ≡ true → is_member s.agenda n ≡ true
-            → filter (λ t. not (commits_after (later m plain) n t.number)) (serial (part_before n (insert_before new p less))) ≡ filter (λ t. not (commits_after s.moves n t.number)) (serial (part_before n s.agenda))
-            = λ n e slot at. passing_before o.number n e (λ t. not (commits_after s.moves n t.number)) (λ t. not (commits_after (later m plain) n t.number))
-                (λ u ne. after_same m plain n u.number slot (other_number u.number ne)) tx refl (ap not (commits_after_now s.moves m n o.number slot (eq-eqb o.number o.number refl))) p s.agenda others in
+        → filter (λ t. not (commits_after (later m plain) n t.number)) (serial (part_before n (insert_before new p less))) ≡ filter (λ t. not (commits_after s.moves n t.number)) (serial (part_before n s.agenda))
+        = λ n e slot at. passing_before o.number n e (λ t. not (commits_after s.moves n t.number)) (λ t. not (commits_after (later m plain) n t.number))
+        (λ u ne. after_same m plain n u.number slot (other_number u.number ne)) tx refl (ap not (commits_after_now s.moves m n o.number slot (eq-eqb o.number o.number refl))) p s.agenda others in
         record {
           rows = inv.rows;
           last = inv.last;
@@ -264,5 +264,5 @@ module _ (base : Base) (s : State) (session : ℕ) (o : Active) (inv : Structure
               (keeps_by m plain (insert_before new p less) (λ n e. member_insert new p n e less ∙ member_without n o.number (λ same. e (sym same)) s.agenda) passing);
           committed = subst (λ l. IsPermutation l (serial (insert_before new p less))) (sym (commits_push s.moves m tx refl))
               (inserted_permutes tx (commits_of s.moves) (serial s.agenda) (serial (insert_before new p less))
-                  (subst (λ l. IsInserted tx l (serial (insert_before new p less))) (serial_without o.number s.agenda others) (before_inserted tx p less here)) inv.committed);
+              (subst (λ l. IsInserted tx l (serial (insert_before new p less))) (serial_without o.number s.agenda others) (before_inserted tx p less here)) inv.committed);
         }

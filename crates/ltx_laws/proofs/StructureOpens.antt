@@ -92,7 +92,7 @@ module _ (base : Base) (s : State) (inv : Structure base s) where
       let step : Step = record { op = op; reply = reply; latest = latest s } in
       let f : Active → Active = with_step step in
       let changed : (P : ℕ → Type 0) → AllByRecursion (λ (u : Active). P u.number) s.active → AllByRecursion (λ (u : Active). P u.number) (change_first (is_of session) f s.active)
-          = λ P all. all_change (λ (u : Active). P u.number) (λ (u : Active). P u.number) (is_of session) f s.active (λ u p. p) (λ u e p. p) all in
+      = λ P all. all_change (λ (u : Active). P u.number) (λ (u : Active). P u.number) (is_of session) f s.active (λ u p. p) (λ u e p. p) all in
       record {
         rows = inv.rows;
         last = inv.last;
@@ -114,9 +114,9 @@ module _ (base : Base) (s : State) (inv : Structure base s) where
             (λ u found h. subst (λ v. Stands s.agenda s.moves v → Stands s.agenda s.moves (f v)) (some_same (sym is ∙ found)) stands h) inv.stands;
         committed = inv.committed;
       } where
-    known : (step : Step) (m : Member) → IsKnown s.active s.moves m → IsKnown (change_first (is_of session) (with_step step) s.active) s.moves m
-    known step (LiveSlot n) h = record { live = any_change (is_live_as n) (is_of session) (with_step step) (λ u. refl) s.active ∙ h.live; slotted = h.slotted; unforwarded = h.unforwarded }
-    known step (Committed t) h = all_change (λ (u : Active). u.number ≢ t.number) (λ (u : Active). u.number ≢ t.number) (is_of session) (with_step step) s.active (λ u p. p) (λ u e p. p) h
+        known : (step : Step) (m : Member) → IsKnown s.active s.moves m → IsKnown (change_first (is_of session) (with_step step) s.active) s.moves m
+        known step (LiveSlot n) h = record { live = any_change (is_live_as n) (is_of session) (with_step step) (λ u. refl) s.active ∙ h.live; slotted = h.slotted; unforwarded = h.unforwarded }
+        known step (Committed t) h = all_change (λ (u : Active). u.number ≢ t.number) (λ (u : Active). u.number ≢ t.number) (is_of session) (with_step step) s.active (λ u p. p) (λ u e p. p) h
 
   pub answered_short_structure : (op : Op) (reply : Reply) (session : ℕ) (o : Active) → active_of s session ≡ Some o → o.kind ≡ IsShort → Structure base (answered s op reply session)
   answered_short_structure op reply session o is kind = answered_structure op reply session o is
@@ -127,7 +127,7 @@ module _ (base : Base) (s : State) (inv : Structure base s) where
       let step : Step = record { op = op; reply = reply; latest = latest s } in
       answered_structure op reply session o is
       (subst (λ k. StandsAs s.agenda s.moves k o.number o.steps → StandsAs s.agenda s.moves k o.number (o.steps ++ step ∷ [])) (sym kind)
-          (λ h. record { member = h.member; slotted = h.slotted; taken = h.taken; now = h.now; inside = all_push (λ (b : Step). refusal d b.op ≡ None) o.steps step h.inside inside }))
+      (λ h. record { member = h.member; slotted = h.slotted; taken = h.taken; now = h.now; inside = all_push (λ (b : Step). refusal d b.op ≡ None) o.steps step h.inside inside }))
 
   pub durable_structure : (epoch : ℕ) → Structure base (made_durable s epoch)
   durable_structure epoch = by_test (nat_lt s.durable epoch) where

@@ -101,7 +101,7 @@ module _ (base : Base) (s : State) (epoch : ℕ) (front back : List Active) (o :
     until = λ k e. until_more k s.moves (m ∷ []) e;
     passing = λ k ne slot at. ap (λ l. filter (λ t. not (commits_after later k t.number)) (serial l)) (part_push k s.agenda (LiveSlot n) at)
         ∙ filter_same (λ t. not (commits_after later k t.number)) (λ t. not (commits_after s.moves k t.number)) (serial (part_before k s.agenda))
-            (all_of (λ t. not (commits_after later k t.number) ≡ not (commits_after s.moves k t.number)) (λ t. ap not (commits_after_more s.moves m k t.number slot refl)) (serial (part_before k s.agenda)));
+        (all_of (λ t. not (commits_after later k t.number) ≡ not (commits_after s.moves k t.number)) (λ t. ap not (commits_after_more s.moves m k t.number slot refl)) (serial (part_before k s.agenda)));
   }
 
   stays_later : (k : ℕ) → n < k → StaysLater s.moves later k
@@ -198,13 +198,13 @@ slots_loop base epoch snapshot [] front s inv started taken = inv
 slots_loop base epoch snapshot (o ∷ todo) front s inv started taken = by_kind o.kind refl (slots_loop base epoch snapshot todo) where
   -- the rest of the list, with one more in front
   next : (o' : Active) (t : State) → ((front : List Active) (s : State) → Structure base (with_active s (front ++ todo)) → AllByRecursion (λ u. IsPendingKind u.kind → ⊥) front → snapshot ≡ serial s.agenda
-          → Structure base (with_active (slots_after epoch s todo) (front ++ map (live_in snapshot) todo)))
+      → Structure base (with_active (slots_after epoch s todo) (front ++ map (live_in snapshot) todo)))
       → Structure base (with_active t (front ++ o' ∷ todo)) → (IsPendingKind o'.kind → ⊥) → snapshot ≡ serial t.agenda → Structure base (with_active (slots_after epoch t todo) (front ++ o' ∷ map (live_in snapshot) todo))
   next o' t loop h none taken = subst (λ l. Structure base (with_active (slots_after epoch t todo) l)) (append_assoc front (o' ∷ []) (map (live_in snapshot) todo))
       (loop (front ++ o' ∷ []) t (subst (λ l. Structure base (with_active t l)) (sym (append_assoc front (o' ∷ []) todo)) h) (all_push (λ u. IsPendingKind u.kind → ⊥) front o' started none) taken)
 
   by_kind : (k : Kind) → o.kind ≡ k → ((front : List Active) (s : State) → Structure base (with_active s (front ++ todo)) → AllByRecursion (λ u. IsPendingKind u.kind → ⊥) front → snapshot ≡ serial s.agenda
-          → Structure base (with_active (slots_after epoch s todo) (front ++ map (live_in snapshot) todo)))
+      → Structure base (with_active (slots_after epoch s todo) (front ++ map (live_in snapshot) todo)))
       → Structure base (with_active (slots_after epoch (slot_after epoch s k o.number) todo) (front ++ with_kind (made_live snapshot k) o ∷ map (live_in snapshot) todo))
   by_kind IsShort is loop = next (with_kind IsShort o) s loop (subst (λ k. Structure base (with_active s (front ++ with_kind k o ∷ todo))) is inv) (λ p. p) taken
   by_kind (IsLive d old) is loop = next (with_kind (IsLive d old) o) s loop (subst (λ k. Structure base (with_active s (front ++ with_kind k o ∷ todo))) is inv) (λ p. p) taken
@@ -215,6 +215,6 @@ advanced_structure base s epoch inv =
     let start : State = in_epoch s epoch in
     let end : State = slots_after epoch start s.active in
     let begun : Structure base (with_active start s.active)
-        = record { rows = inv.rows; last = inv.last; opens = inv.opens; slots = inv.slots; moves = inv.moves; members = inv.members; order = inv.order; stands = inv.stands; committed = inv.committed } in
+    = record { rows = inv.rows; last = inv.last; opens = inv.opens; slots = inv.slots; moves = inv.moves; members = inv.members; order = inv.order; stands = inv.stands; committed = inv.committed } in
     let done : Structure base (with_active end (map (live_in (serial s.agenda)) s.active)) = slots_loop base epoch (serial s.agenda) s.active [] start begun tt refl in
     subst (λ l. Structure base (with_active end l)) (sym (slots_active epoch start s.active)) done

@@ -27,9 +27,9 @@ module _ (base : Base) (s : State) (inv : Structure base s) (session : ℕ) (o :
   slot_of member =
       let found = any_item (has_number o.number) s.agenda member in
       by_member found.0 (all_contains (IsKnown s.active s.moves) s.agenda found.0 inv.members.known found.1) (same_number (number_of found.0) o.number found.2) where
-    by_member : (m : Member) → IsKnown s.active s.moves m → number_of m ≡ o.number → IsSlotOfLive s.active s.moves o.number
-    by_member (LiveSlot n) known e = subst (IsSlotOfLive s.active s.moves) e known
-    by_member (Committed t) known e = absurd (all_find (λ (u : Active). u.number ≢ t.number) (is_of session) s.active o known is (sym e))
+        by_member : (m : Member) → IsKnown s.active s.moves m → number_of m ≡ o.number → IsSlotOfLive s.active s.moves o.number
+        by_member (LiveSlot n) known e = subst (IsSlotOfLive s.active s.moves) e known
+        by_member (Committed t) known e = absurd (all_find (λ (u : Active). u.number ≢ t.number) (is_of session) s.active o known is (sym e))
 
   module _ (d : Declaration) (snapshot : List Transaction) (kind : o.kind ≡ IsLive d snapshot) where
     pub live_stands : IsLiveBatch s.agenda s.moves o.number d snapshot o.steps

@@ -34,7 +34,7 @@ overtaken_smaller s i j e =
     let same : b.tx.number ≡ j = same_number b.tx.number j (and_left (b.tx.number == j) (preserves_what_looks i b) found.2) in
     let looks : preserves_what_looks i b ≡ true = and_right (b.tx.number == j) (preserves_what_looks i b) found.2 in
     let less : b.tx.number < i.tx.number = ltb-true b.tx.number i.tx.number
-        (and_left (nat_lt b.tx.number i.tx.number) (list_any (λ op. has_table b.declared.writes (table_of op) && looks_into_table (batch_operations i) (table_of op)) (batch_operations i)) looks) in
+    (and_left (nat_lt b.tx.number i.tx.number) (list_any (λ op. has_table b.declared.writes (table_of op) && looks_into_table (batch_operations i) (table_of op)) (batch_operations i)) looks) in
     omega arith
 
 module _ (base : Base) (s : State) (inv : Structure base s) (i : LiveBatch) (slotted : has_slot s.moves i.tx.number ≡ true) (member : is_member s.agenda i.tx.number ≡ true) (unforwarded : is_forwarded s.moves i.tx.number ≡ false) where
@@ -51,4 +51,4 @@ module _ (base : Base) (s : State) (inv : Structure base s) (i : LiveBatch) (slo
   target_ahead p e =
       let found = target_found s i p e in
       subst (λ n. is_member (part_before i.tx.number s.agenda) n ≡ true) found.2
-          (overtaken_ahead found.0 (find_contains (overtakes s i) s.agenda found.0 found.1) (all_find (IsKnown s.active s.moves) (overtakes s i) s.agenda found.0 inv.members.known found.1) (find_passes (overtakes s i) s.agenda found.0 found.1))
+      (overtaken_ahead found.0 (find_contains (overtakes s i) s.agenda found.0 found.1) (all_find (IsKnown s.active s.moves) (overtakes s i) s.agenda found.0 inv.members.known found.1) (find_passes (overtakes s i) s.agenda found.0 found.1))

@@ -164,11 +164,12 @@ unfolding IsLegalFrom state_from opens_from committed_from
 told_from built s [] legal = (refl, sym (append-nil (commits_of s.moves)))
 told_from built s (entry ∷ entries) legal =
     let tells : Tells s entry.line entry.reply (after s entry) = entry_tells built s entry legal.0 in
-    let rest = told_from built (after s entry) entries legal.1 in
-    (rest.0 ∙ ap (λ os. opens_from os entries) tells.opens,
-     rest.1 ∙ ap (λ os. commits_of (after s entry).moves ++ committed_from os entries) tells.opens ∙ ap (λ ts. ts ++ committed_from (opens_after (opens_of s.active) entry) entries) tells.commits
-         ∙ append_assoc (commits_of s.moves) (cons_option (committed_by (opens_of s.active) entry) []) (committed_from (opens_after (opens_of s.active) entry) entries)
-         ∙ ap (λ ts. commits_of s.moves ++ ts) (cons_some (committed_by (opens_of s.active) entry) (committed_from (opens_after (opens_of s.active) entry) entries)))
+    let rest = told_from built (after s entry) entries legal.1 in (
+      rest.0 ∙ ap (λ os. opens_from os entries) tells.opens,
+      rest.1 ∙ ap (λ os. commits_of (after s entry).moves ++ committed_from os entries) tells.opens ∙ ap (λ ts. ts ++ committed_from (opens_after (opens_of s.active) entry) entries) tells.commits
+          ∙ append_assoc (commits_of s.moves) (cons_option (committed_by (opens_of s.active) entry) []) (committed_from (opens_after (opens_of s.active) entry) entries)
+          ∙ ap (λ ts. commits_of s.moves ++ ts) (cons_some (committed_by (opens_of s.active) entry) (committed_from (opens_after (opens_of s.active) entry) entries)),
+    )
 
 pub opens_told : (built : State → Line → Bool) (base : Base) (history : List Entry) → IsLegalWith built base history → opens_of (state base history).active ≡ opens_from [] history
 opens_told built base history legal = (told_from built (first_state base) history legal).0

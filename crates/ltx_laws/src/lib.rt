@@ -1,2 +1,4 @@
 //! The laws of the serial order: what holds in every legal history. Each is the contract of a function with an empty body.
 #![tactic(auto)]
+
+pub mod serial_order;
