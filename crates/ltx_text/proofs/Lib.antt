@@ -1,2 +1,5 @@
+pub mod BlockLemmas
 pub mod DecimalLemmas
+pub mod LineGiven
+pub mod LineLemmas
 pub mod WordLemmas

@@ -1,2 +1,5 @@
+pub mod Block
 pub mod Decimals
+pub mod Lines
+pub mod Pieces
 pub mod Words

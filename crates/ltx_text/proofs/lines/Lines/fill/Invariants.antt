@@ -1,0 +1,16 @@
+use Rattle.std.proofs.Common.{◌≡◌, ◌+◌, ◌-◌, ◌≤◌, []}
+use Rattle.ltx_text.specs.Lines.{Cuts, feeds}
+use Rattle.ltx_text.proofs.lines.Lines.fill.Given as goal
+
+-- what was taken so far holds no line feed, and is within the limit
+abbrev pub invariant-loop-self : goal.invariant-loop-self
+invariant-loop-self g l = record {
+  cuts : Cuts l.fn.self l.self (g.S.Source.left l.fn.source) (g.S.Source.left l.source) [];
+  unended : feeds l.self.held ≡ 0;
+  within : l.self.taken ≤ l.self.limit;
+  limit : l.self.limit ≡ l.fn.self.limit;
+  counted : g.S.Source.faults l.fn.source ≤ g.S.Source.faults l.source;
+}
+
+abbrev pub decreases-loop-self : goal.decreases-loop-self
+decreases-loop-self g l = l.self.limit + 1 - l.self.taken

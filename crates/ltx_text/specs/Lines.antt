@@ -1,0 +1,55 @@
+-- Cutting bytes into lines, and what a reader of lines holds, takes and gives.
+use Rattle.std.specs.Prelude.{◌≡◌, ℕ, ◌+◌, ◌≤◌, ◌<◌, nat_le, ◌==◌, if◌then◌else◌, List, [], ◌∷◌, ◌++◌, map, length, take, slice_index, Option, None, Some, ⊤}
+use Rattle.std.specs.Io.KnownBytes.{Consumes, prepend_known}
+
+-- a byte other than a line feed stands before the first line of what follows it
+abbrev pub before_lines : ℕ → List (List ℕ) → List (List ℕ)
+before_lines b [] = (b ∷ []) ∷ []
+before_lines b (line ∷ lines) = (b ∷ line) ∷ lines
+
+-- the lines of bytes: each line feed (10) ends one and is no part of it, and the bytes after the last are one where there are any
+unfoldable pub lines_of : List ℕ → List (List ℕ)
+lines_of [] = []
+lines_of (b ∷ bytes) = if b == 10 then [] ∷ lines_of bytes else before_lines b (lines_of bytes)
+
+-- what is given of a line: itself, or nothing of one of more than 4,096 bytes
+abbrev pub piece_of : List ℕ → Option (List ℕ)
+piece_of line = if nat_le (length line) 4096 then Some line else None
+
+-- what is given of bytes: a piece for each line, in order
+abbrev pub pieces_of : List ℕ → List (Option (List ℕ))
+pieces_of bytes = map piece_of (lines_of bytes)
+
+-- how many line feeds stand among the bytes
+abbrev pub feeds : List ℕ → ℕ
+feeds [] = 0
+feeds (b ∷ bytes) = (if b == 10 then 1 else 0) + feeds bytes
+
+-- a reader: the bytes that it holds, how many it has taken from its source, and how many it may take
+pub record LinesState : Type 0 where
+  pub held : List ℕ
+  pub taken : ℕ
+  pub limit : ℕ
+
+-- the pieces that are to come at first are those given and those to come then, where the bytes to come are known
+abbrev pub GivesPieces : Option (List ℕ) → Option (List ℕ) → List (Option (List ℕ)) → Type 0
+GivesPieces None new given = ⊤
+GivesPieces (Some old) None given = ⊥
+GivesPieces (Some old) (Some new) given = pieces_of old ≡ given ++ pieces_of new
+
+-- what a reader took from a source and what it gave
+pub record Cuts (old new : LinesState) (left_old left_new : Option (List ℕ)) (given : List (Option (List ℕ))) : Type 0 where
+  -- the bytes that it took
+  pub bytes : List ℕ
+  pub consumed : Consumes left_old left_new bytes
+  pub counted : new.taken ≡ old.taken + length bytes
+  -- to come are the bytes that it holds and those that the source has left
+  pub pieces : GivesPieces (prepend_known old.held left_old) (prepend_known new.held left_new) given
+  -- each line feed that it held or took ends a piece given, or is held
+  pub ended : feeds old.held + feeds bytes ≤ length given + feeds new.held
+
+-- the first line feed of the bytes stands at this place
+pub record IsFirstFeed (bytes : List ℕ) (at : ℕ) : Type 0 where
+  pub within : at < length bytes
+  pub here : slice_index bytes at ≡ 10
+  pub before : feeds (take at bytes) ≡ 0

@@ -1,0 +1,238 @@
+//! The lines of a source, one at a time, for whoever runs a script.
+//! The bytes are taken in blocks, a read is made only where no whole line is held, and the held bytes
+//! outlive a fault.
+ghost use Rattle.std.specs.Prelude.{◌≡◌, ◌≢◌, ℕ, ◌+◌, ◌-◌, ◌≤◌, ◌<◌, ◌↔◌, [], ◌∷◌, ◌++◌, length, take, drop, slice_index, IfOk, OnOk, OnErr, IfSome, IsErrOf, MatchBool, MatchOption};
+ghost use Rattle.std.specs.Io.KnownBytes.{Consumes, IsAtEnd};
+ghost use Rattle.ltx_outside.specs.Faults.{Rose};
+ghost use Rattle.ltx_text.specs.Lines.{Cuts, IsFirstFeed, feeds, piece_of, pieces_of};
+ghost use Rattle.ltx_text.specs.Pieces.{OnEnd, OnLine, given};
+
+use crate::block::{Block, MOST_READ};
+use crate::piece::{Piece, TextFault};
+use ltx_model::memory::NoMemory;
+use ltx_outside::{Failed, Source};
+use memchr::memchr;
+use std::alloc::Global;
+use std::marker::Model;
+
+/// The most bytes of a line, without its line feed.
+const MOST_OF_LINE: usize = 4_096;
+
+/// A reader of lines.
+#[derive(Debug, Drop)]
+pub struct Lines {
+    alloc: Global,
+    block: Block,
+    limit: u64,
+    taken: u64,
+    past: bool,
+}
+
+impl Model for Lines {
+    ghost use Rattle.std.specs.Prelude.{◌≡◌, ◌+◌, ◌≤◌, true, if◌then◌else◌};
+    ghost use Rattle.ltx_text.specs.Block.{held};
+    ghost use Rattle.ltx_text.specs.Lines.{LinesState};
+
+    ghost Value = { LinesState };
+
+    ghost view = { λ l. record { held = held l.block; taken = l.taken + (if l.past then 1 else 0); limit = l.limit } };
+
+    ghost invariant = { λ l. (l.taken ≤ l.limit) × (l.past ≡ true → l.taken ≡ l.limit) };
+}
+
+impl Lines {
+    /// A reader that has taken nothing yet, and takes at most `limit` bytes, and one more to see whether
+    /// there are more.
+    pub fn new(alloc: Global, limit: u64) -> Result<Lines, NoMemory>
+        ensures { IfOk result (λ lines. lines ≡ record { held = []; taken = 0; limit = limit }) }
+    {
+        Ok(Lines {
+            alloc,
+            block: Block::new(alloc)?,
+            limit,
+            taken: 0,
+            past: false,
+        })
+    }
+
+    /// The next piece of the script.
+    ///
+    /// After `ReadFault` and `NoMemory` the bytes already taken stay, so the pieces still to come are the
+    /// same. `TooMuch` comes where more than the limit was taken, at this call and at every later one.
+    pub fn next<S: Source>(&mut self, source: &mut S) -> Result<Piece, TextFault>
+        ensures cuts { Cuts self.old self.new (S.left source.old) (S.left source.new) (given result) }
+        ensures limit { self.new.limit ≡ self.old.limit }
+
+        // A read is made only where no whole line is held, and goes past the limit only where the limit was taken before it.
+        ensures quiet { 0 < feeds self.old.held → (source.new ≡ source.old) × (self.new.taken ≡ self.old.taken) }
+        ensures least { self.new.taken ≤ self.new.limit + 1 }
+
+        // Where each answer comes.
+        ensures line { OnLine result (λ line. (length line ≤ 4096) × (feeds line ≡ 0)) }
+        ensures end { OnEnd result ((self.new.held ≡ []) × IsAtEnd (S.left source.new)) }
+        ensures too_much { IsErrOf result TextFault.TooMuch ↔ (self.new.limit < self.new.taken) }
+        ensures read_fault { IsErrOf result TextFault.ReadFault → Rose (S.faults source.old) (S.faults source.new) }
+        ensures counted { S.faults source.old ≤ S.faults source.new }
+
+        // At a fault of the source, and where the limit was passed in this call, no whole line is left.
+        ensures no_line { IsErrOf result TextFault.ReadFault → feeds self.new.held ≡ 0 }
+        ensures no_line_below { IsErrOf result TextFault.TooMuch → self.old.taken ≤ self.old.limit → (feeds self.old.held ≡ 0)
+            × IfSome (S.left source.old) (λ left. feeds (take (self.old.limit - self.old.taken) left) ≡ 0) }
+    {
+        if self.past {
+            return Err(TextFault::TooMuch);
+        }
+        match first_feed(self.block.held()) {
+            Some(at) => self.give_line(at),
+            None => self.take_line(source),
+        }
+    }
+
+    /// Takes bytes until a line is whole or the source is at its end, and gives what is then the next piece.
+    fn take_line<S: Source>(&mut self, source: &mut S) -> Result<Piece, TextFault>
+        requires unended { feeds self.old.held ≡ 0 }
+        requires within { self.old.taken ≤ self.old.limit }
+        ensures cuts { Cuts self.old self.new (S.left source.old) (S.left source.new) (given result) }
+        ensures limit { self.new.limit ≡ self.old.limit }
+        ensures least { self.new.taken ≤ self.new.limit + 1 }
+        ensures line { OnLine result (λ line. (length line ≤ 4096) × (feeds line ≡ 0)) }
+        ensures end { OnEnd result ((self.new.held ≡ []) × IsAtEnd (S.left source.new)) }
+        ensures too_much { IsErrOf result TextFault.TooMuch ↔ (self.new.limit < self.new.taken) }
+        ensures read_fault { IsErrOf result TextFault.ReadFault → (feeds self.new.held ≡ 0) × Rose (S.faults source.old) (S.faults source.new) }
+        ensures no_line_below { IsErrOf result TextFault.TooMuch →
+            IfSome (S.left source.old) (λ left. feeds (take (self.old.limit - self.old.taken) left) ≡ 0) }
+        ensures counted { S.faults source.old ≤ S.faults source.new }
+    {
+        match self.fill(source)? {
+            Some(at) => self.give_line(at),
+            None => self.give_last(),
+        }
+    }
+
+    /// Takes bytes until a line is whole, and answers the place of its line feed. None at the end of the source.
+    fn fill<S: Source>(&mut self, source: &mut S) -> Result<Option<usize>, TextFault>
+        requires unended { feeds self.old.held ≡ 0 }
+        requires within { self.old.taken ≤ self.old.limit }
+        ensures cuts { Cuts self.old self.new (S.left source.old) (S.left source.new) [] }
+        ensures limit { self.new.limit ≡ self.old.limit }
+        ensures found { IfOk result (λ found. MatchOption found (IsAtEnd (S.left source.new) × (feeds self.new.held ≡ 0)) (IsFirstFeed self.new.held)) }
+        ensures within { OnOk result (self.new.taken ≤ self.new.limit) }
+        ensures read_fault { IsErrOf result TextFault.ReadFault → (feeds self.new.held ≡ 0) × (self.new.taken ≤ self.new.limit) × Rose (S.faults source.old) (S.faults source.new) }
+        ensures too_much { IsErrOf result TextFault.TooMuch → (self.new.taken ≡ self.new.limit + 1)
+            × IfSome (S.left source.old) (λ left. feeds (take (self.old.limit - self.old.taken) left) ≡ 0) }
+        ensures memory { IsErrOf result TextFault.NoMemory → ⊥ }
+        ensures counted { S.faults source.old ≤ S.faults source.new }
+    {
+        loop {
+            if !self.take_block(source)? {
+                return Ok(None);
+            }
+            if let Some(at) = first_feed(self.held()) {
+                return Ok(Some(at));
+            }
+        }
+    }
+
+    /// Takes one block of bytes, where no line feed is held. False at the end of the source.
+    fn take_block<S: Source>(&mut self, source: &mut S) -> Result<bool, TextFault>
+        requires unended { feeds self.old.held ≡ 0 }
+        requires within { self.old.taken ≤ self.old.limit }
+        ensures cuts { Cuts self.old self.new (S.left source.old) (S.left source.new) [] }
+        ensures limit { self.new.limit ≡ self.old.limit }
+        ensures more { IfOk result (λ more. MatchBool more (self.old.taken < self.new.taken) (IsAtEnd (S.left source.new) × (feeds self.new.held ≡ 0))) }
+        ensures within { OnOk result (self.new.taken ≤ self.new.limit) }
+        ensures read_fault { IsErrOf result TextFault.ReadFault → (feeds self.new.held ≡ 0) × (self.new.taken ≤ self.new.limit) × Rose (S.faults source.old) (S.faults source.new) }
+        ensures too_much { IsErrOf result TextFault.TooMuch → (self.old.taken ≡ self.old.limit) × (self.new.taken ≡ self.new.limit + 1) }
+        ensures memory { IsErrOf result TextFault.NoMemory → ⊥ }
+        ensures counted { S.faults source.old ≤ S.faults source.new }
+    {
+        let most = most_to_read(self.taken, self.limit);
+        self.block.make_room();
+        match self.block.read_from(source, most) {
+            Err(_) => Err(TextFault::ReadFault),
+            Ok(0) => Ok(false),
+            Ok(_) if self.taken == self.limit => {
+                self.past = true;
+                Err(TextFault::TooMuch)
+            }
+            Ok(count) => {
+                self.taken += count as u64;
+                Ok(true)
+            }
+        }
+    }
+
+    /// The bytes that were taken and not given yet.
+    fn held(&self) -> &[u8]
+        ensures { result.now ≡ self.now.held }
+    {
+        self.block.held()
+    }
+
+    /// Gives the last line, where the source is at its end and no line feed is held.
+    fn give_last(&mut self) -> Result<Piece, TextFault>
+        requires { feeds self.old.held ≡ 0 }
+        ensures piece { OnOk result (given result ≡ pieces_of self.old.held) }
+        ensures line { OnLine result (λ line. (length line ≤ 4096) × (feeds line ≡ 0)) }
+        ensures state { OnOk result (self.new ≡ record self.old { held = [] }) }
+        ensures err { OnErr result (self.new ≡ self.old) }
+        ensures fault { OnErr result (IsErrOf result TextFault.NoMemory) }
+    {
+        let length = self.held().len();
+        if length == 0 {
+            return Ok(Piece::End);
+        }
+        let piece = piece_of(self.alloc, self.block.held())?;
+        self.block.skip(length);
+        Ok(piece)
+    }
+
+    /// Gives the line whose line feed stands at this place of the held bytes.
+    fn give_line(&mut self, at: usize) -> Result<Piece, TextFault>
+        requires { IsFirstFeed self.old.held at }
+        ensures piece { OnOk result (given result ≡ piece_of (take at self.old.held) ∷ []) }
+        ensures line { OnLine result (λ line. (length line ≤ 4096) × (feeds line ≡ 0)) }
+        ensures some { OnEnd result ⊥ }
+        ensures state { OnOk result (self.new ≡ record self.old { held = drop (at + 1) self.old.held }) }
+        ensures err { OnErr result (self.new ≡ self.old) }
+        ensures fault { OnErr result (IsErrOf result TextFault.NoMemory) }
+    {
+        let piece = piece_of(self.alloc, &self.block.held()[..at])?;
+        self.block.skip(at + 1);
+        Ok(piece)
+    }
+}
+
+/// What is given of a line.
+fn piece_of(alloc: Global, line: &[u8]) -> Result<Piece, TextFault>
+    ensures piece { OnOk result (given result ≡ piece_of line.now ∷ []) }
+    ensures line { OnLine result (λ bytes. (bytes ≡ line.now) × (length bytes ≤ 4096)) }
+    ensures some { OnEnd result ⊥ }
+    ensures fault { OnErr result (IsErrOf result TextFault.NoMemory) }
+{
+    if line.len() > MOST_OF_LINE {
+        return Ok(Piece::TooLong);
+    }
+    match Vec::from_slice(alloc, line) {
+        Ok(line) => Ok(Piece::Line(line)),
+        Err(_) => Err(TextFault::NoMemory),
+    }
+}
+
+/// The place of the first line feed.
+fn first_feed(bytes: &[u8]) -> Option<usize>
+    ensures { MatchOption result (feeds bytes.now ≡ 0) (IsFirstFeed bytes.now) }
+{
+    memchr(b'\n', bytes)
+}
+
+/// How many bytes the next read may take.
+fn most_to_read(taken: u64, limit: u64) -> usize
+    requires { taken ≤ limit }
+    ensures some { 0 < result }
+    ensures most { result ≤ 65536 }
+    ensures within { taken < limit → taken + result ≤ limit }
+    ensures one { taken ≡ limit → result ≡ 1 }
+{
+    (limit - taken).min(MOST_READ).max(1) as usize
+}
