@@ -17,3 +17,5 @@ pub mod ReadsTables
 pub mod ExplainedCommits
 pub mod Explained
 pub mod ExplainedStable
+pub mod FloorCounts
+pub mod FloorSteps

@@ -151,7 +151,7 @@ module _ (base : Base) (s : State) (structure : Structure base s) where
         }
 
 -- the epoch closes: pending batches become live, and nothing commits
-slots_active : (epoch : ℕ) (s : State) (os : List Active) → (slots_after epoch s os).active ≡ s.active
+pub slots_active : (epoch : ℕ) (s : State) (os : List Active) → (slots_after epoch s os).active ≡ s.active
 slots_active epoch s [] = refl
 slots_active epoch s (o ∷ os) = slots_active epoch (slot_after epoch s o.kind o.number) os ∙ by_kind o.kind where
   by_kind : (k : Kind) → (slot_after epoch s k o.number).active ≡ s.active

@@ -1,5 +1,5 @@
--- Places in an order of numbers.
-use Rattle.std.specs.Prelude.{◌≡◌, ℕ, true, ◌==◌, List}
+-- Places in an order, and beginnings of lists.
+use Rattle.std.specs.Prelude.{◌≡◌, ℕ, true, ◌==◌, List, ◌++◌}
 use Rattle.std.specs.List.{list_any}
 use Rattle.ltx_model.specs.Lists.{before_first}
 
@@ -7,3 +7,8 @@ use Rattle.ltx_model.specs.Lists.{before_first}
 pub record StandsBefore (numbers : List ℕ) (a b : ℕ) : Type 0 where
   pub member : list_any (λ n. n == b) numbers ≡ true
   pub before : list_any (λ n. n == a) (before_first (λ n. n == b) numbers) ≡ true
+
+-- the second list begins with the first
+pub record IsPrefix {A : Type 0} (front whole : List A) : Type 0 where
+  pub rest : List A
+  pub parts : whole ≡ front ++ rest
