@@ -2,6 +2,7 @@ pub mod Agendas
 pub mod Pairs
 pub mod Places
 pub mod Snapshots
+pub mod Spared
 pub mod Standing
 pub mod StructureMoves
 pub mod Targets

@@ -101,7 +101,7 @@ module _ (base : Base) (s : State) (epoch : ℕ) (front back : List Active) (o :
     until = λ k e. until_more k s.moves (m ∷ []) e;
     passing = λ k ne slot at. ap (λ l. filter (λ t. not (commits_after later k t.number)) (serial l)) (part_push k s.agenda (LiveSlot n) at)
         ∙ filter_same (λ t. not (commits_after later k t.number)) (λ t. not (commits_after s.moves k t.number)) (serial (part_before k s.agenda))
-        (all_of (λ t. not (commits_after later k t.number) ≡ not (commits_after s.moves k t.number)) (λ t. ap not (commits_after_more s.moves m k t.number slot refl)) (serial (part_before k s.agenda)));
+            (all_of (λ t. not (commits_after later k t.number) ≡ not (commits_after s.moves k t.number)) (λ t. ap not (commits_after_more s.moves m k t.number slot refl)) (serial (part_before k s.agenda)));
   }
 
   stays_later : (k : ℕ) → n < k → StaysLater s.moves later k
@@ -192,29 +192,43 @@ slots_active epoch s (o ∷ os) = slots_active epoch (slot_after epoch s o.kind 
   by_kind (IsPending d) = refl
   by_kind (IsLive d snapshot) = refl
 
-slots_loop : (base : Base) (epoch : ℕ) (snapshot : List Transaction) (todo front : List Active) (s : State) → Structure base (with_active s (front ++ todo)) → AllByRecursion (λ u. IsPendingKind u.kind → ⊥) front → snapshot ≡ serial s.agenda
-    → Structure base (with_active (slots_after epoch s todo) (front ++ map (live_in snapshot) todo))
-slots_loop base epoch snapshot [] front s inv started taken = inv
-slots_loop base epoch snapshot (o ∷ todo) front s inv started taken = by_kind o.kind refl (slots_loop base epoch snapshot todo) where
-  -- the rest of the list, with one more in front
-  next : (o' : Active) (t : State) → ((front : List Active) (s : State) → Structure base (with_active s (front ++ todo)) → AllByRecursion (λ u. IsPendingKind u.kind → ⊥) front → snapshot ≡ serial s.agenda
-      → Structure base (with_active (slots_after epoch s todo) (front ++ map (live_in snapshot) todo)))
-      → Structure base (with_active t (front ++ o' ∷ todo)) → (IsPendingKind o'.kind → ⊥) → snapshot ≡ serial t.agenda → Structure base (with_active (slots_after epoch t todo) (front ++ o' ∷ map (live_in snapshot) todo))
-  next o' t loop h none taken = subst (λ l. Structure base (with_active (slots_after epoch t todo) l)) (append_assoc front (o' ∷ []) (map (live_in snapshot) todo))
-      (loop (front ++ o' ∷ []) t (subst (λ l. Structure base (with_active t l)) (sym (append_assoc front (o' ∷ []) todo)) h) (all_push (λ u. IsPendingKind u.kind → ⊥) front o' started none) taken)
+-- What holds of a state with some open transactions holds when its pending batches have become live, where one more that becomes live keeps it.
+module _ (Q : State → Type 0) (epoch : ℕ) (snapshot : List Transaction)
+    (one : (s : State) (front back : List Active) (o : Active) (d : Declaration) → o.kind ≡ IsPending d → Q (with_active s (front ++ o ∷ back)) → AllByRecursion (λ u. IsPendingKind u.kind → ⊥) front → snapshot ≡ serial s.agenda
+        → Q (with_active (moved s epoch (Slot o.number)) (front ++ with_kind (IsLive d snapshot) o ∷ back))) where
+  abbrev Loops : List Active → Type 0
+  Loops todo = (front : List Active) (s : State) → Q (with_active s (front ++ todo)) → AllByRecursion (λ u. IsPendingKind u.kind → ⊥) front → snapshot ≡ serial s.agenda
+      → Q (with_active (slots_after epoch s todo) (front ++ map (live_in snapshot) todo))
 
-  by_kind : (k : Kind) → o.kind ≡ k → ((front : List Active) (s : State) → Structure base (with_active s (front ++ todo)) → AllByRecursion (λ u. IsPendingKind u.kind → ⊥) front → snapshot ≡ serial s.agenda
-      → Structure base (with_active (slots_after epoch s todo) (front ++ map (live_in snapshot) todo)))
-      → Structure base (with_active (slots_after epoch (slot_after epoch s k o.number) todo) (front ++ with_kind (made_live snapshot k) o ∷ map (live_in snapshot) todo))
-  by_kind IsShort is loop = next (with_kind IsShort o) s loop (subst (λ k. Structure base (with_active s (front ++ with_kind k o ∷ todo))) is inv) (λ p. p) taken
-  by_kind (IsLive d old) is loop = next (with_kind (IsLive d old) o) s loop (subst (λ k. Structure base (with_active s (front ++ with_kind k o ∷ todo))) is inv) (λ p. p) taken
-  by_kind (IsPending d) is loop = next (with_kind (IsLive d snapshot) o) (moved s epoch (Slot o.number)) loop (slot_structure base s epoch front todo o d is inv started snapshot taken) (λ p. p) (taken ∙ sym (serial_slot s.agenda o.number))
+  slots_loop : (todo : List Active) → Loops todo
+  slots_loop [] front s q started taken = q
+  slots_loop (o ∷ todo) front s q started taken = by_kind o.kind refl (slots_loop todo) where
+    -- the rest of the list, with one more in front
+    next : (o' : Active) (t : State) → Loops todo → Q (with_active t (front ++ o' ∷ todo)) → (IsPendingKind o'.kind → ⊥) → snapshot ≡ serial t.agenda → Q (with_active (slots_after epoch t todo) (front ++ o' ∷ map (live_in snapshot) todo))
+    next o' t loop h none taken = subst (λ l. Q (with_active (slots_after epoch t todo) l)) (append_assoc front (o' ∷ []) (map (live_in snapshot) todo))
+        (loop (front ++ o' ∷ []) t (subst (λ l. Q (with_active t l)) (sym (append_assoc front (o' ∷ []) todo)) h) (all_push (λ u. IsPendingKind u.kind → ⊥) front o' started none) taken)
+
+    by_kind : (k : Kind) → o.kind ≡ k → Loops todo → Q (with_active (slots_after epoch (slot_after epoch s k o.number) todo) (front ++ with_kind (made_live snapshot k) o ∷ map (live_in snapshot) todo))
+    by_kind IsShort is loop = next (with_kind IsShort o) s loop (subst (λ k. Q (with_active s (front ++ with_kind k o ∷ todo))) is q) (λ p. p) taken
+    by_kind (IsLive d old) is loop = next (with_kind (IsLive d old) o) s loop (subst (λ k. Q (with_active s (front ++ with_kind k o ∷ todo))) is q) (λ p. p) taken
+    by_kind (IsPending d) is loop = next (with_kind (IsLive d snapshot) o) (moved s epoch (Slot o.number)) loop (one s front todo o d is q started taken) (λ p. p) (taken ∙ sym (serial_slot s.agenda o.number))
+
+  pub slots_along : (s : State) → Q (with_active (in_epoch s epoch) s.active) → snapshot ≡ serial s.agenda → Q (with_active (slots_after epoch (in_epoch s epoch) s.active) (map (live_in snapshot) s.active))
+  slots_along s q taken = slots_loop s.active [] (in_epoch s epoch) q tt taken
+
+-- and so of the state in a new epoch
+pub advanced_along : (Q : State → Type 0) (epoch : ℕ) (s : State)
+    → ((t : State) (front back : List Active) (o : Active) (d : Declaration) → o.kind ≡ IsPending d → Q (with_active t (front ++ o ∷ back)) → AllByRecursion (λ u. IsPendingKind u.kind → ⊥) front → serial s.agenda ≡ serial t.agenda
+        → Q (with_active (moved t epoch (Slot o.number)) (front ++ with_kind (IsLive d (serial s.agenda)) o ∷ back)))
+    → Q (with_active (in_epoch s epoch) s.active) → Q (advanced s epoch)
+advanced_along Q epoch s one q =
+    let end : State = slots_after epoch (in_epoch s epoch) s.active in
+    subst (λ l. Q (with_active end l)) (sym (slots_active epoch (in_epoch s epoch) s.active)) (slots_along Q epoch (serial s.agenda) one s q refl)
+
+-- the structure of a state is that of one in another epoch
+pub in_epoch_structure : (base : Base) (s : State) (epoch : ℕ) → Structure base s → Structure base (with_active (in_epoch s epoch) s.active)
+in_epoch_structure base s epoch inv = record { rows = inv.rows; last = inv.last; opens = inv.opens; slots = inv.slots; moves = inv.moves; members = inv.members; order = inv.order; stands = inv.stands; committed = inv.committed }
 
 pub advanced_structure : (base : Base) (s : State) (epoch : ℕ) → Structure base s → Structure base (advanced s epoch)
-advanced_structure base s epoch inv =
-    let start : State = in_epoch s epoch in
-    let end : State = slots_after epoch start s.active in
-    let begun : Structure base (with_active start s.active)
-    = record { rows = inv.rows; last = inv.last; opens = inv.opens; slots = inv.slots; moves = inv.moves; members = inv.members; order = inv.order; stands = inv.stands; committed = inv.committed } in
-    let done : Structure base (with_active end (map (live_in (serial s.agenda)) s.active)) = slots_loop base epoch (serial s.agenda) s.active [] start begun tt refl in
-    subst (λ l. Structure base (with_active end l)) (sym (slots_active epoch start s.active)) done
+advanced_structure base s epoch inv = advanced_along (Structure base) epoch s
+    (λ t front back o d kind h started taken. slot_structure base t epoch front back o d kind h started (serial s.agenda) taken) (in_epoch_structure base s epoch inv)

@@ -1,2 +1,3 @@
 pub mod Structure
 pub mod Orders
+pub mod Guards
