@@ -1,4 +1,5 @@
 pub mod Agendas
+pub mod Guarded
 pub mod Pairs
 pub mod Places
 pub mod Snapshots

@@ -50,6 +50,18 @@ module _ {A : Type 0} where
   pairs_all R Q f [] pairs = tt
   pairs_all R Q f (x ∷ xs) pairs = (all_map (R x) (Q x) (f x) xs pairs.0, pairs_all R Q f xs pairs.1)
 
+  -- from what holds of each item, and of each pair in two ways
+  pub pairs_both : (P : A → Type 0) (R Q S : A → A → Type 0) → ((x y : A) → P x → P y → R x y → Q x y → S x y) → (xs : List A) → AllByRecursion P xs → IsPairwise R xs → IsPairwise Q xs → IsPairwise S xs
+  pairs_both P R Q S f [] all r q = tt
+  pairs_both P R Q S f (x ∷ xs) all r q = (each xs all.1 r.0 q.0, pairs_both P R Q S f xs all.1 r.1 q.1) where
+    each : (ys : List A) → AllByRecursion P ys → AllByRecursion (R x) ys → AllByRecursion (Q x) ys → AllByRecursion (S x) ys
+    each [] ps rs qs = tt
+    each (y ∷ ys) ps rs qs = (f x y all.0 ps.0 rs.0 qs.0, each ys ps.1 rs.1 qs.1)
+
+  pub pairs_from : (P : A → Type 0) (R : A → A → Type 0) → ((x y : A) → P x → P y → R x y) → (xs : List A) → AllByRecursion P xs → IsPairwise R xs
+  pairs_from P R f [] all = tt
+  pairs_from P R f (x ∷ xs) all = (all_map P (R x) (λ y p. f x y all.0 p) xs all.1, pairs_from P R f xs all.1)
+
   pub pairs_push : (R : A → A → Type 0) (xs : List A) (y : A) → AllByRecursion (λ x. R x y) xs → IsPairwise R xs → IsPairwise R (xs ++ y ∷ [])
   pairs_push R [] y all pairs = (tt, tt)
   pairs_push R (x ∷ xs) y all pairs = (all_push (R x) xs y pairs.0 all.0, pairs_push R xs y all.1 pairs.1)

@@ -1,4 +1,8 @@
 -- Who stands before whom in an agenda: from what holds of each pair of its members. No state.
+use Rattle.std.proofs.Common.{◌⊎◌, inl, inr, ◌<◌, ◌≤◌, nat_lt, ltb-true, ltb-false, arith, Some, eq-eqb}
+use Rattle.std.specs.List.{find}
+use Rattle.ltx_model.specs.Agenda.{part_from}
+use Rattle.ltx_lemmas.proofs.Lists.{all_from, all_filter, any_contains, some_same}
 use Rattle.std.proofs.Common.{◌≡◌, ◌≢◌, ℕ, Bool, true, false, cond, not, ◌||◌, ◌&&◌, List, [], ◌∷◌, refl, sym, ap, ◌∙◌, subst}
 use Rattle.std.specs.List.{list_any, AllByRecursion}
 use Rattle.ltx_model.specs.Lists.{before_first}
@@ -72,3 +76,33 @@ before_apart k p ms ahead same = true_false (sym (subst (λ n. is_member (part_b
   none : (xs : List Member) → AllByRecursion (λ x. has_number k x ≡ false) xs → is_member xs k ≡ false
   none [] all = refl
   none (x ∷ xs) all = rw all.0 (none xs all.1)
+
+-- the members of a list, and those from p on without another one
+pub members_are : (ms : List Member) → AllByRecursion (λ y. is_member ms (number_of y) ≡ true) ms
+members_are ms = all_from (λ y. is_member ms (number_of y) ≡ true) ms (λ y here. any_contains (has_number (number_of y)) ms y here (eq-eqb (number_of y) (number_of y) refl))
+
+pub from_without : (p k : ℕ) → p ≢ k → (ms : List Member) → AllByRecursion (λ y. is_member (part_from p ms) (number_of y) ≡ true) (part_from p (without_member ms k))
+from_without p k apart [] = tt
+from_without p k apart (m ∷ ms) = by_tests (has_number k m) (has_number p m) refl refl (from_without p k apart ms) where
+  by_tests : (a b : Bool) → has_number k m ≡ a → has_number p m ≡ b → AllByRecursion (λ y. is_member (part_from p ms) (number_of y) ≡ true) (part_from p (without_member ms k))
+      → AllByRecursion (λ y. is_member (cond b (m ∷ ms) (part_from p ms)) (number_of y) ≡ true) (part_from p (cond (not a) (m ∷ without_member ms k) (without_member ms k)))
+  by_tests true true isk isp rest = absurd (apart (sym (same_number (number_of m) p isp) ∙ same_number (number_of m) k isk))
+  by_tests true false isk isp rest = rest
+  by_tests false true isk isp rest = let all = members_are (m ∷ ms) in rw isp (all.0, all_filter (λ y. is_member (m ∷ ms) (number_of y) ≡ true) (λ x. not (has_number k x)) ms all.1)
+  by_tests false false isk isp rest = rw isp rest
+
+-- a search passes over what stands before the number of what it finds
+pub found_first : (test : Member → Bool) (p : ℕ) (ms : List Member) (m : Member) → find test ms ≡ Some m → number_of m ≡ p → AllByRecursion (λ x. test x ≡ false) (part_before p ms)
+found_first test p [] m e at = tt
+found_first test p (x ∷ xs) m e at = by_tests (test x) (has_number p x) refl refl e (found_first test p xs m) where
+  by_tests : (a b : Bool) → test x ≡ a → has_number p x ≡ b → cond a (Some x) (find test xs) ≡ Some m → (find test xs ≡ Some m → number_of m ≡ p → AllByRecursion (λ y. test y ≡ false) (part_before p xs)) → AllByRecursion (λ y. test y ≡ false) (cond b [] (x ∷ part_before p xs))
+  by_tests a true is isp e later = tt
+  by_tests true false is isp e later = let same : x ≡ m = some_same e in absurd (true_false (sym (eq-eqb (number_of x) p (ap number_of same ∙ at)) ∙ isp))
+  by_tests false false is isp e later = (is, later e at)
+
+-- of two different numbers one is smaller
+pub one_smaller : (a b : ℕ) → a ≢ b → (a < b) ⊎ (b < a)
+one_smaller a b apart = by_test (nat_lt a b) refl where
+  by_test : (t : Bool) → nat_lt a b ≡ t → (a < b) ⊎ (b < a)
+  by_test true is = inl (ltb-true a b is)
+  by_test false is = let h : b ≤ a = ltb-false a b is in let less : b < a = omega arith in inr less

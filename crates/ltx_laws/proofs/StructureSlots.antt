@@ -45,7 +45,7 @@ module _ (base : Base) (s : State) (epoch : ℕ) (front back : List Active) (o :
   abbrev agenda : List Member
   agenda = s.agenda ++ LiveSlot o.number ∷ []
 
-  pending : IsPendingBatch s.agenda s.moves n o.steps
+  pub pending : IsPendingBatch s.agenda s.moves n o.steps
   pending = subst (λ k. StandsAs s.agenda s.moves k o.number o.steps) kind (all_middle (Stands s.agenda s.moves) front o back inv.stands)
 
   unslotted : has_slot s.moves n ≡ false
@@ -54,7 +54,7 @@ module _ (base : Base) (s : State) (epoch : ℕ) (front back : List Active) (o :
     by_test true is = absurd (let less : n < n = pending.later n is in let none : ⊥ = omega arith in none)
     by_test false is = is
 
-  apart : AllByRecursion (λ x. number_of x ≢ n) s.agenda
+  pub apart : AllByRecursion (λ x. number_of x ≢ n) s.agenda
   apart = not_member s.agenda n pending.fresh
 
   above : base.last < n
@@ -63,7 +63,7 @@ module _ (base : Base) (s : State) (epoch : ℕ) (front back : List Active) (o :
   bound : n ≤ s.last
   bound = all_middle (λ (u : Active). u.number ≤ s.last) front o back inv.opens.bound
 
-  slots_other : (k : ℕ) → n ≢ k → has_slot later k ≡ has_slot s.moves k
+  pub slots_other : (k : ℕ) → n ≢ k → has_slot later k ≡ has_slot s.moves k
   slots_other k ne = any_push_not (λ x. is_slot k x.move) s.moves m (ne_eqb n k ne)
 
   slotted : has_slot later n ≡ true
@@ -111,16 +111,16 @@ module _ (base : Base) (s : State) (epoch : ℕ) (front back : List Active) (o :
     by_same false is = h j (sym (slots_other j (λ same. true_false (sym (eq-eqb n j same) ∙ is))) ∙ e)
 
   -- the others have other numbers, and those that are pending have greater ones
-  abbrev IsAnother : Active → Type 0
+  abbrev pub IsAnother : Active → Type 0
   IsAnother u = (n ≢ u.number) × (IsPendingKind u.kind → n < u.number)
 
-  front_others : (us : List Active) → AllByRecursion (λ u. IsPendingKind u.kind → ⊥) us → IsPairwise (λ a b. a.number < b.number) (us ++ o ∷ back) → AllByRecursion IsAnother us
+  pub front_others : (us : List Active) → AllByRecursion (λ u. IsPendingKind u.kind → ⊥) us → IsPairwise (λ a b. a.number < b.number) (us ++ o ∷ back) → AllByRecursion IsAnother us
   front_others [] started pairs = tt
   front_others (u ∷ us) started pairs =
       let less : u.number < n = all_middle (λ (v : Active). u.number < v.number) us o back pairs.0 in
       ((λ e. let none : ⊥ = omega arith in none, λ p. absurd (started.0 p)), front_others us started.1 pairs.1)
 
-  back_others : AllByRecursion IsAnother back
+  pub back_others : AllByRecursion IsAnother back
   back_others = all_map (λ (u : Active). n < u.number) IsAnother (λ u less. (λ e. let none : ⊥ = omega arith in none, λ p. less)) back (pairs_behind (λ a b. a.number < b.number) front o back inv.opens.rising)
 
   others : AllByRecursion IsAnother (front ++ back)
