@@ -1,5 +1,6 @@
 pub mod Agendas
 pub mod Guarded
+pub mod GuardedStates
 pub mod Pairs
 pub mod Places
 pub mod Snapshots
