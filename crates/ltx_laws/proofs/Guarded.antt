@@ -32,9 +32,9 @@ pub slot_in : (base : Base) (s : State) → Structure base s → (u : Active) �
 slot_in base s inv u here member =
     let found = any_item (has_number u.number) s.agenda member in
     by_member found.0 (all_contains (IsKnown s.active s.moves) s.agenda found.0 inv.members.known found.1) (same_number (number_of found.0) u.number found.2) where
-  by_member : (m : Member) → IsKnown s.active s.moves m → number_of m ≡ u.number → IsSlotOfLive s.active s.moves u.number
-  by_member (LiveSlot n) known e = subst (IsSlotOfLive s.active s.moves) e known
-  by_member (Committed t) known e = absurd (all_contains (λ (v : Active). v.number ≢ t.number) s.active u known here (sym e))
+      by_member : (m : Member) → IsKnown s.active s.moves m → number_of m ≡ u.number → IsSlotOfLive s.active s.moves u.number
+      by_member (LiveSlot n) known e = subst (IsSlotOfLive s.active s.moves) e known
+      by_member (Committed t) known e = absurd (all_contains (λ (v : Active). v.number ≢ t.number) s.active u known here (sym e))
 
 module _ (base : Base) (s : State) (inv : Structure base s) (guards : AreGuarded s) (session : ℕ) (o : Active) (is : active_of s session ≡ Some o) where
   abbrev rest : List Active
@@ -50,14 +50,14 @@ module _ (base : Base) (s : State) (inv : Structure base s) (guards : AreGuarded
   fellows : AllByRecursion IsFellow rest
   fellows = fellow rest (all_without (Contains s.active) (is_of session) s.active (all_from (Contains s.active) s.active (λ u here. here))) (others_rising s.active session o is inv.opens.rising)
       (all_without (Stands s.agenda s.moves) (is_of session) s.active inv.stands) (all_without (λ u. GuardsAs s.agenda s.moves u.kind u.number) (is_of session) s.active guards) where
-    fellow : (us : List Active) → AllByRecursion (Contains s.active) us → AllByRecursion (λ u. o.number ≢ u.number) us → AllByRecursion (Stands s.agenda s.moves) us → AllByRecursion (λ u. GuardsAs s.agenda s.moves u.kind u.number) us → AllByRecursion IsFellow us
-    fellow [] a b c d = tt
-    fellow (u ∷ us) a b c d = (record { here = a.0; apart = b.0; stands = c.0; guarded = d.0 }, fellow us a.1 b.1 c.1 d.1)
+        fellow : (us : List Active) → AllByRecursion (Contains s.active) us → AllByRecursion (λ u. o.number ≢ u.number) us → AllByRecursion (Stands s.agenda s.moves) us → AllByRecursion (λ u. GuardsAs s.agenda s.moves u.kind u.number) us → AllByRecursion IsFellow us
+        fellow [] a b c d = tt
+        fellow (u ∷ us) a b c d = (record { here = a.0; apart = b.0; stands = c.0; guarded = d.0 }, fellow us a.1 b.1 c.1 d.1)
 
   -- The guards of the others, where those of each live one are kept.
   module _ (agenda' : List Member) (moves' : List Timed)
       (keep : (u : Active) (d : Declaration) (snapshot : List Transaction) → Contains s.active u → u.kind ≡ IsLive d snapshot → o.number ≢ u.number → IsLiveBatch s.agenda s.moves u.number d snapshot u.steps
-          → IsPairwise (IsGuarded s.moves u.number d) s.agenda → IsPairwise (IsGuarded moves' u.number d) agenda') where
+      → IsPairwise (IsGuarded s.moves u.number d) s.agenda → IsPairwise (IsGuarded moves' u.number d) agenda') where
     guards_one : (u : Active) → IsFellow u → GuardsAs agenda' moves' u.kind u.number
     guards_one u f = by_kind u.kind refl f.stands f.guarded where
       by_kind : (k : Kind) → u.kind ≡ k → StandsAs s.agenda s.moves k u.number u.steps → GuardsAs s.agenda s.moves k u.number → GuardsAs agenda' moves' k u.number
@@ -84,17 +84,17 @@ module _ (base : Base) (s : State) (inv : Structure base s) (guards : AreGuarded
   short_guards none =
       let m : Timed = record { epoch = s.epoch; move = CommitShort tx } in
       guards_rest (s.agenda ++ Committed tx ∷ []) (s.moves ++ m ∷ [])
-          (λ u d snapshot here kind apart stands pairs. pairs_push (IsGuarded (s.moves ++ m ∷ []) u.number d) s.agenda (Committed tx)
-              (all_of (λ x. IsGuarded (s.moves ++ m ∷ []) u.number d x (Committed tx)) (spared u d snapshot here kind m) s.agenda) (on m (λ n. refl) u.number d s.agenda pairs)) where
-    spared : (u : Active) (d : Declaration) (snapshot : List Transaction) → Contains s.active u → u.kind ≡ IsLive d snapshot → (m : Timed) (x : Member) → IsGuarded (s.moves ++ m ∷ []) u.number d x (Committed tx)
-    spared u d snapshot here kind m (LiveSlot k) = λ e. short_spares s tx (live_of u d snapshot) none (live_here s u d snapshot here kind)
-    spared u d snapshot here kind m (Committed t) = tt
+      (λ u d snapshot here kind apart stands pairs. pairs_push (IsGuarded (s.moves ++ m ∷ []) u.number d) s.agenda (Committed tx)
+      (all_of (λ x. IsGuarded (s.moves ++ m ∷ []) u.number d x (Committed tx)) (spared u d snapshot here kind m) s.agenda) (on m (λ n. refl) u.number d s.agenda pairs)) where
+        spared : (u : Active) (d : Declaration) (snapshot : List Transaction) → Contains s.active u → u.kind ≡ IsLive d snapshot → (m : Timed) (x : Member) → IsGuarded (s.moves ++ m ∷ []) u.number d x (Committed tx)
+        spared u d snapshot here kind m (LiveSlot k) = λ e. short_spares s tx (live_of u d snapshot) none (live_here s u d snapshot here kind)
+        spared u d snapshot here kind m (Committed t) = tt
 
   pub leave_guards : AreGuarded (moved (closed s session) s.epoch (Leave o.number))
   leave_guards =
       let m : Timed = record { epoch = s.epoch; move = Leave o.number } in
       guards_rest (without_member s.agenda o.number) (s.moves ++ m ∷ [])
-          (λ u d snapshot here kind apart stands pairs. on m (λ n. refl) u.number d (without_member s.agenda o.number) (pairs_filter (IsGuarded s.moves u.number d) (λ x. not (has_number o.number x)) s.agenda pairs))
+      (λ u d snapshot here kind apart stands pairs. on m (λ n. refl) u.number d (without_member s.agenda o.number) (pairs_filter (IsGuarded s.moves u.number d) (λ x. not (has_number o.number x)) s.agenda pairs))
 
   -- the batch that commits is live, and so is another one: which has the smaller number, and what it spares
   module _ (d : Declaration) (snapshot : List Transaction) (kind : o.kind ≡ IsLive d snapshot) where
@@ -159,8 +159,8 @@ module _ (base : Base) (s : State) (inv : Structure base s) (guards : AreGuarded
       home_keep : find (overtakes s i) s.agenda ≡ None → IsPairwise (IsGuarded s.moves u.number d') s.agenda → IsPairwise (IsGuarded home_moves u.number d') (map (commit_at_slot tx) s.agenda)
       home_keep none pairs = pairs_map (λ x y. IsGuarded home_moves u.number d' (commit_at_slot tx x) (commit_at_slot tx y)) (IsGuarded home_moves u.number d') (commit_at_slot tx) (λ x y g. g) s.agenda
           (pairs_both IsSide (IsGuarded s.moves u.number d') (λ x y. IsBefore s.moves (number_of x) (number_of y)) (λ x y. IsGuarded home_moves u.number d' (commit_at_slot tx x) (commit_at_slot tx y)) home_pair s.agenda
-              (all_both (IsKnown s.active s.moves) (λ x. overtakes s i x ≡ false) IsSide (λ x known free. record { other = others_committed s.active session o is s.moves x known; free = free }) s.agenda inv.members.known (find_none (overtakes s i) s.agenda none))
-              pairs inv.order)
+          (all_both (IsKnown s.active s.moves) (λ x. overtakes s i x ≡ false) IsSide (λ x known free. record { other = others_committed s.active session o is s.moves x known; free = free }) s.agenda inv.members.known (find_none (overtakes s i) s.agenda none))
+          pairs inv.order)
 
       module _ (p : ℕ) (goal : target s i ≡ Some p) (nobody : elder_reader s i p ≡ None) where
         abbrev before_moves : List Timed
@@ -180,8 +180,8 @@ module _ (base : Base) (s : State) (inv : Structure base s) (guards : AreGuarded
         front : AllByRecursion (λ y. IsGuarded before_moves u.number d' y (Committed tx)) (part_before p (without_member s.agenda o.number))
         front = let found = target_found s i p goal in
             before_without (λ y. IsGuarded before_moves u.number d' y (Committed tx)) p o.number not_own s.agenda
-                (all_both (λ y. overtakes s i y ≡ false) (λ y. IsBefore s.moves (number_of y) o.number) (λ y. IsGuarded before_moves u.number d' y (Committed tx)) front_pair (part_before p s.agenda)
-                    (found_first (overtakes s i) p s.agenda found.0 found.1 found.2) (in_front (IsBefore s.moves) o.number p s.agenda inv.order own.member ahead))
+            (all_both (λ y. overtakes s i y ≡ false) (λ y. IsBefore s.moves (number_of y) o.number) (λ y. IsGuarded before_moves u.number d' y (Committed tx)) front_pair (part_before p s.agenda)
+            (found_first (overtakes s i) p s.agenda found.0 found.1 found.2) (in_front (IsBefore s.moves) o.number p s.agenda inv.order own.member ahead))
 
         -- those from the target on
         back_pair : (y : Member) → is_member (part_from p s.agenda) (number_of y) ≡ true → IsGuarded before_moves u.number d' (Committed tx) y

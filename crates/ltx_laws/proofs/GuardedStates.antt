@@ -81,8 +81,11 @@ module _ (base : Base) (s : State) (epoch : ℕ) (front back : List Active) (o :
 
   guards_all : (us : List Active) → AllByRecursion (IsAnother base s epoch front back o d kind inv started snapshot taken) us → AllByRecursion (λ u. GuardsAs s.agenda s.moves u.kind u.number) (us ++ o ∷ back)
       → AllByRecursion (λ u. GuardsAs agenda later u.kind u.number) (us ++ with_kind (IsLive d snapshot) o ∷ back)
-  guards_all [] others all = (itself, all_both (IsAnother base s epoch front back o d kind inv started snapshot taken) (λ u. GuardsAs s.agenda s.moves u.kind u.number) (λ u. GuardsAs agenda later u.kind u.number)
-      (λ u another g. guards_one u.kind u.number another.0 g) back (back_others base s epoch front back o d kind inv started snapshot taken) all.1)
+  guards_all [] others all = (
+    itself,
+    all_both (IsAnother base s epoch front back o d kind inv started snapshot taken) (λ u. GuardsAs s.agenda s.moves u.kind u.number) (λ u. GuardsAs agenda later u.kind u.number)
+        (λ u another g. guards_one u.kind u.number another.0 g) back (back_others base s epoch front back o d kind inv started snapshot taken) all.1,
+  )
   guards_all (u ∷ us) others all = (guards_one u.kind u.number others.0.0 all.0, guards_all us others.1 all.1)
 
   pub slot_guards : AreGuarded (with_active s (front ++ o ∷ back)) → AreGuarded (with_active (moved s epoch (Slot o.number)) (front ++ with_kind (IsLive d snapshot) o ∷ back))

@@ -12,6 +12,7 @@ pub mod StructureOpens
 pub mod StructureSlots
 pub mod Structures
 pub mod Told
+pub mod Unread
 pub mod Transitions
 pub mod ReadsWitnesses
 pub mod ReadsPlaces

@@ -101,7 +101,7 @@ module _ (base : Base) (s : State) (epoch : ℕ) (front back : List Active) (o :
     until = λ k e. until_more k s.moves (m ∷ []) e;
     passing = λ k ne slot at. ap (λ l. filter (λ t. not (commits_after later k t.number)) (serial l)) (part_push k s.agenda (LiveSlot n) at)
         ∙ filter_same (λ t. not (commits_after later k t.number)) (λ t. not (commits_after s.moves k t.number)) (serial (part_before k s.agenda))
-            (all_of (λ t. not (commits_after later k t.number) ≡ not (commits_after s.moves k t.number)) (λ t. ap not (commits_after_more s.moves m k t.number slot refl)) (serial (part_before k s.agenda)));
+        (all_of (λ t. not (commits_after later k t.number) ≡ not (commits_after s.moves k t.number)) (λ t. ap not (commits_after_more s.moves m k t.number slot refl)) (serial (part_before k s.agenda)));
   }
 
   stays_later : (k : ℕ) → n < k → StaysLater s.moves later k
@@ -195,7 +195,7 @@ slots_active epoch s (o ∷ os) = slots_active epoch (slot_after epoch s o.kind 
 -- What holds of a state with some open transactions holds when its pending batches have become live, where one more that becomes live keeps it.
 module _ (Q : State → Type 0) (epoch : ℕ) (snapshot : List Transaction)
     (one : (s : State) (front back : List Active) (o : Active) (d : Declaration) → o.kind ≡ IsPending d → Q (with_active s (front ++ o ∷ back)) → AllByRecursion (λ u. IsPendingKind u.kind → ⊥) front → snapshot ≡ serial s.agenda
-        → Q (with_active (moved s epoch (Slot o.number)) (front ++ with_kind (IsLive d snapshot) o ∷ back))) where
+    → Q (with_active (moved s epoch (Slot o.number)) (front ++ with_kind (IsLive d snapshot) o ∷ back))) where
   abbrev Loops : List Active → Type 0
   Loops todo = (front : List Active) (s : State) → Q (with_active s (front ++ todo)) → AllByRecursion (λ u. IsPendingKind u.kind → ⊥) front → snapshot ≡ serial s.agenda
       → Q (with_active (slots_after epoch s todo) (front ++ map (live_in snapshot) todo))
@@ -219,7 +219,7 @@ module _ (Q : State → Type 0) (epoch : ℕ) (snapshot : List Transaction)
 -- and so of the state in a new epoch
 pub advanced_along : (Q : State → Type 0) (epoch : ℕ) (s : State)
     → ((t : State) (front back : List Active) (o : Active) (d : Declaration) → o.kind ≡ IsPending d → Q (with_active t (front ++ o ∷ back)) → AllByRecursion (λ u. IsPendingKind u.kind → ⊥) front → serial s.agenda ≡ serial t.agenda
-        → Q (with_active (moved t epoch (Slot o.number)) (front ++ with_kind (IsLive d (serial s.agenda)) o ∷ back)))
+    → Q (with_active (moved t epoch (Slot o.number)) (front ++ with_kind (IsLive d (serial s.agenda)) o ∷ back)))
     → Q (with_active (in_epoch s epoch) s.active) → Q (advanced s epoch)
 advanced_along Q epoch s one q =
     let end : State = slots_after epoch (in_epoch s epoch) s.active in
