@@ -82,6 +82,20 @@ module _ (base : Base) (s : State) (structure : Structure base s) where
   same_agenda : (after : State) → after.agenda ≡ s.agenda → ((t : Transaction) → IsFree s.moves s.active t → IsFree after.moves after.active t) → IsPrefix front (before_floor after)
   same_agenda after agenda free = first_again after behind (agenda ∙ sym parts) (λ t here. free t)
 
+  -- whoever a live batch overtakes counts, and so does its target
+  module _ (o : Active) (d : Declaration) (snapshot : List Transaction) (there : Contains s.active o) (kind : o.kind ≡ IsLive d snapshot) where
+    overtaken_counts : (m : Member) → overtakes s (live_of o d snapshot) m ≡ true → counts_for_floor s m ≡ true
+    overtaken_counts (LiveSlot j) e = refl
+    overtaken_counts (Committed t) e =
+        let ahead = and_parts (committed_ahead s (live_of o d snapshot) t) (writes_what_looks (live_of o d snapshot) t) e in
+        let later = and_parts (commits_after_slot s o.number t.number) (is_member (part_before o.number s.agenda) t.number) ahead.0 in
+        counts_by s o d snapshot t there kind later.0
+
+    pub target_counts : (p : ℕ) → target s (live_of o d snapshot) ≡ Some p → (m : Member) × Contains s.agenda m × (counts_for_floor s m ≡ true) × (number_of m ≡ p)
+    target_counts p aim =
+        let (m, found, number) = target_found s (live_of o d snapshot) p aim in
+        (m, find_contains (overtakes s (live_of o d snapshot)) s.agenda m found, overtaken_counts m (find_passes (overtakes s (live_of o d snapshot)) s.agenda m found), number)
+
   module _ (session : ℕ) (o : Active) (is : active_of s session ≡ Some o) where
     -- a move of its number commits no other
     other_number : (t : Transaction) → Contains s.agenda (Committed t) → (o.number == t.number) ≡ false
@@ -113,22 +127,9 @@ module _ (base : Base) (s : State) (structure : Structure base s) where
       pub leave_floor : IsPrefix front (before_floor (moved (closed s session) s.epoch (Leave o.number)))
       leave_floor = first_again (moved (closed s session) s.epoch (Leave o.number)) (without_member behind o.number) (without_front o.number slot_none) (λ t here. move_free (record { epoch = s.epoch; move = Leave o.number }) t refl)
 
-      -- whoever is overtaken counts
-      overtaken_counts : (m : Member) → overtakes s (live_of o d snapshot) m ≡ true → counts_for_floor s m ≡ true
-      overtaken_counts (LiveSlot j) e = refl
-      overtaken_counts (Committed t) e =
-          let ahead = and_parts (committed_ahead s (live_of o d snapshot) t) (writes_what_looks (live_of o d snapshot) t) e in
-          let later = and_parts (commits_after_slot s o.number t.number) (is_member (part_before o.number s.agenda) t.number) ahead.0 in
-          counts_by s o d snapshot t (find_contains (is_of session) s.active o is) kind later.0
-
-      pub target_counts : (p : ℕ) → target s (live_of o d snapshot) ≡ Some p → (m : Member) × Contains s.agenda m × (counts_for_floor s m ≡ true) × (number_of m ≡ p)
-      target_counts p aim =
-          let (m, found, number) = target_found s (live_of o d snapshot) p aim in
-          (m, find_contains (overtakes s (live_of o d snapshot)) s.agenda m found, overtaken_counts m (find_passes (overtakes s (live_of o d snapshot)) s.agenda m found), number)
-
       pub before_prefix : (p : ℕ) → target s (live_of o d snapshot) ≡ Some p → IsPrefix front (before_floor (moved (closed s session) s.epoch (CommitBefore (transaction_of o) p)))
       before_prefix p aim =
-          let (m, here, counts, number) = target_counts p aim in
+          let (m, here, counts, number) = target_counts o d snapshot (find_contains (is_of session) s.active o is) kind p aim in
           let none : HasNone p front = subst (λ k. HasNone k front) number (none_in_front m here counts) in
           let new : Member = Committed (transaction_of o) in
           first_again (moved (closed s session) s.epoch (CommitBefore (transaction_of o) p)) (insert_before new p (without_member behind o.number))

@@ -23,3 +23,4 @@ pub mod Explained
 pub mod ExplainedStable
 pub mod FloorCounts
 pub mod FloorSteps
+pub mod Floors

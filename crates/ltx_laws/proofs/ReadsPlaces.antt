@@ -33,7 +33,7 @@ abbrev pub in_snapshot : State → ℕ → Transaction → Bool
 in_snapshot s n t = not (commits_after_slot s n t.number)
 
 -- of members with numbers of their own, those before one
-front_fails : (front : List Member) (m : Member) (rest : List Member) → AreApart (front ++ m ∷ rest) → AllByRecursion (λ x. has_number (number_of m) x ≡ false) front
+pub front_fails : (front : List Member) (m : Member) (rest : List Member) → AreApart (front ++ m ∷ rest) → AllByRecursion (λ x. has_number (number_of m) x ≡ false) front
 front_fails [] m rest apart = tt
 front_fails (x ∷ front) m rest apart =
     let tail = apart_tail x (front ++ m ∷ rest) apart in
