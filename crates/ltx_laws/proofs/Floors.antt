@@ -1,20 +1,19 @@
 -- The floor over histories: targets stand from it on, and the members before it stay first.
 use Rattle.std.proofs.Common.{◌≡◌, ◌⊎◌, inl, inr, ℕ, Bool, true, false, cond, List, [], ◌∷◌, ◌++◌, Contains, Option, Some, None, option_map, refl, sym, ap, ◌∙◌, subst, append_assoc, append-nil}
 use Rattle.std.proofs.lemmas.Bool.{both_ways, eq-eqb}
-use Rattle.std.specs.List.{find, list_any, AllByRecursion}
+use Rattle.std.specs.List.{find, AllByRecursion}
 use Rattle.ltx_model.specs.declared.commands.Line.{Line}
 use Rattle.ltx_model.specs.declared.replies.Entry.{Entry}
 use Rattle.ltx_model.specs.Lists.{before_first, from_first}
 use Rattle.ltx_model.specs.Operations.{Transaction}
-use Rattle.ltx_model.specs.Agenda.{Member, LiveSlot, Committed, number_of, has_number, is_member, serial, part_before, part_from}
-use Rattle.ltx_model.specs.States.{Declaration, Kind, IsShort, IsPending, IsLive, Active, transaction_of, Base, IsSound, State, LiveBatch, as_live, live_batches, first_state}
+use Rattle.ltx_model.specs.Agenda.{Member, number_of, has_number, is_member, serial, part_before, part_from}
+use Rattle.ltx_model.specs.States.{Kind, IsShort, IsPending, IsLive, Active, transaction_of, Base, IsSound, State, LiveBatch, as_live, live_batches, first_state}
 use Rattle.ltx_model.specs.Histories.{after, state, state_from}
 use Rattle.ltx_model.specs.Answers.{IsLegalFrom, IsLegalWith}
 use Rattle.ltx_model.specs.Batches.{target, is_from, counts_for_floor, floor, before_floor, safe}
 use Rattle.ltx_model.proofs.OneMore.{state-append, legal-parts}
 use Rattle.ltx_lemmas.specs.Places.{AreApart}
-use Rattle.ltx_lemmas.proofs.Lists.{true_false, none_some, some_same, all_contains, any_contains, given_item, find_splits, before_fails, parts_join, contains_parts, before_within, from_past}
-use Rattle.ltx_lemmas.proofs.Members.{same_number}
+use Rattle.ltx_lemmas.proofs.Lists.{none_some, some_same, all_contains, any_contains, given_item, find_splits, before_fails, parts_join, contains_parts, before_within, from_past}
 use Rattle.ltx_lemmas.proofs.Serials.{serial_append, serial_is_member}
 use Rattle.ltx_laws.specs.Structure.{Structure}
 use Rattle.ltx_laws.specs.Orders.{IsPrefix}

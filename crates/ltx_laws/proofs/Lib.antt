@@ -24,3 +24,4 @@ pub mod ExplainedStable
 pub mod FloorCounts
 pub mod FloorSteps
 pub mod Floors
+pub mod ExplainedHistories

@@ -1,4 +1,5 @@
 //! The laws of the serial order: what holds in every legal history. Each is the contract of a function with an empty body.
 #![tactic(auto)]
 
+pub mod floor;
 pub mod serial_order;

@@ -7,7 +7,16 @@ ghost use Rattle.ltx_model.specs.declared.replies.Entry.{Entry};
 ghost use Rattle.ltx_model.specs.States.{Base, IsSound, State, order};
 ghost use Rattle.ltx_model.specs.Histories.{state};
 ghost use Rattle.ltx_model.specs.Answers.{IsLegalWith};
+ghost use Rattle.ltx_model.specs.Explained.{IsExplained};
 ghost use Rattle.ltx_laws.specs.Orders.{StandsBefore};
+
+/// The order has exactly the committed transactions, each once, and run one at a time from the base's rows in that order they
+/// give every reply that the history has for them.
+pub fn order_explains_history()
+    ensures { (built : State → Line → Bool) (base : Base) (history : List Entry) → IsSound base
+        → IsLegalWith built base history
+        → IsExplained base history (order (state base history)) }
+{}
 
 /// Of two members of the order, the one before the other stays before it in every longer history. More: the order of a longer
 /// history, cut to the members of this one's order, is this one's order.
