@@ -1,2 +1,4 @@
+pub mod Joined
+pub mod Leaves
 pub mod Lookups
 pub mod Places

@@ -1,5 +1,5 @@
 -- What a look-up finds after an edit, and what the first pair from a bound on is, for whoever keeps something by key.
-use Rattle.std.proofs.Common.{◌≡◌, ℕ, Bool, true, false, [], ◌∷◌, List, Some, None, IsSome, if◌then◌else◌, refl, sym, ap, ◌∙◌, subst, inl, inr}
+use Rattle.std.proofs.Common.{◌≡◌, ℕ, length, Bool, true, false, [], ◌∷◌, List, Some, None, IsSome, if◌then◌else◌, refl, sym, ap, ◌∙◌, subst, inl, inr}
 use Rattle.std.specs.List.{AllByRecursion}
 use Rattle.std.specs.declared.cmp.Ordering.{Ordering}
 use Rattle.std.specs.declared.cmp.Ordering.TheVariants.{Less, Equal, Greater}
@@ -8,6 +8,7 @@ use Rattle.std.specs.Ordering.{is_eq, is_le, match_ordering}
 use Rattle.std.proofs.lemmas.Bool.{cases_Bool, false≢true, both_ways}
 use Rattle.std.proofs.lemmas.Cmp.{nat_list_cmp_total, tied_itself, eq_by_cmp_equiv}
 use Rattle.std.proofs.lemmas.Map.{lookup-remove_entry, lookup-set_value}
+use Rattle.std.proofs.lemmas.Map.Entries.{length-keys_of}
 use Rattle.std.proofs.lemmas.Map.Keys.{IsDistinct-from_sorted, sorted_head, sorted_tail}
 use Rattle.std.proofs.lemmas.Map.Lookups.{exact_bytes}
 use Rattle.std.proofs.lemmas.Map.Views.{tells_apart}
@@ -66,6 +67,9 @@ keys-with_value ((k, x) ∷ rest) key value = elim (cases_Bool (are_same key k))
   | inl same ↦ rw same refl
   | inr differ ↦ rw (differ, keys-with_value rest key value) refl
 ]
+
+pub length-with_value : {V : Type 0} (pairs : List (List ℕ × V)) (key : List ℕ) (value : V) → length (with_value pairs key value) ≡ length pairs
+length-with_value pairs key value = sym (length-keys_of (with_value pairs key value)) ∙ ap length (keys-with_value pairs key value) ∙ length-keys_of pairs
 
 -- ---- the first pair from a bound on
 

@@ -1,7 +1,7 @@
 -- What stands at a place in a run of pairs, and what an edit at that place makes of the run.
-use Rattle.std.proofs.Common.{◌≡◌, ℕ, zero, suc, ◌+◌, ◌<◌, ◌≤◌, Bool, true, false, [], ◌∷◌, List, length, take, drop, get_or, Option, Some, None, IsSome, Ok, Err, Result, IfOk, IfErr, slice_get, slice_set, refl, sym, ap, subst, not, ◌⊎◌, inl, inr, ◌∙◌, arith}
+use Rattle.std.proofs.Common.{◌≡◌, ℕ, zero, suc, ◌+◌, ◌<◌, ◌≤◌, Bool, true, false, [], ◌∷◌, ◌++◌, List, min, length, take, drop, get_or, Option, Some, None, IsSome, Ok, Err, Result, IfOk, IfErr, slice_get, slice_set, refl, sym, ap, subst, not, ◌⊎◌, inl, inr, ◌∙◌, arith}
 use Rattle.std.specs.List.{insert, remove, zip, AllByRecursion, ItemBy}
-use Rattle.std.specs.Option.{option_map}
+use Rattle.std.specs.Option.{option_map, unwrap_or}
 use Rattle.std.specs.List.Sorted.{IsStrictlySortedBy, IsSortedBy, IsSearchInRange, IsBinarySearchResult, IsPartitionedBy, IsPartitionPoint}
 use Rattle.std.specs.Ordering.{ordering_reverse, is_lt, is_le}
 use Rattle.std.specs.declared.cmp.Ordering.{Ordering}
@@ -9,6 +9,7 @@ use Rattle.std.specs.declared.cmp.Ordering.TheVariants.{Less, Equal, Greater}
 use Rattle.std.proofs.lemmas.Cmp.{nat_list_cmp_total, tied_itself}
 use Rattle.std.proofs.lemmas.Option.{none-some, same_Some, slice_get-get_or, slice_get_cases, slice_get_past}
 use Rattle.std.proofs.lemmas.Map.Made.{keys_of-zip}
+use Rattle.std.proofs.lemmas.Slice.Zip.{length-zip}
 use Rattle.std.proofs.lemmas.Bool.{false≢true, not-true, not-false, both_ways, cases_Bool, cases_eq}
 use Rattle.std.proofs.lemmas.List.{length-set, length-take, length-drop, get_or-take, get_or-drop}
 use Rattle.std.proofs.lemmas.List.Edits.{length-insert, length-remove}
@@ -18,6 +19,7 @@ use Rattle.std.proofs.lemmas.Map.Keys.{Less-from_sorted}
 use Rattle.std.proofs.lemmas.Map.Lookups.{exact_bytes}
 use Rattle.ltx_model.specs.Keys.{key_cmp}
 use Rattle.ltx_index.specs.Pairs.{IsInOrder, value_at, with_pair, with_value, without_key, first_from, reaches}
+use Rattle.ltx_index.specs.Leaves.{first_key}
 use Rattle.ltx_index.specs.Places.{IsRun, AreAbove, IsFoundAt, IsGapAt, IsStartAt}
 
 -- keys are tied where they are the same
@@ -117,10 +119,6 @@ module _ {V : Type 0} (key : List ℕ) where
 
 -- ---- the order of the keys
 
-pub empty_run : {V : Type 0} → IsRun {V = V} [] []
-unfolding IsStrictlySortedBy
-empty_run = record { as_many = refl; in_order = tt }
-
 all_insert : {X : Type 0} (P : X → Type 0) (xs : List X) (i : ℕ) (y : X) → AllByRecursion P xs → P y → AllByRecursion P (insert xs i y)
 all_insert P xs zero y all here = (here, all)
 all_insert P [] (suc i) y all here = (here, tt)
@@ -138,6 +136,11 @@ in_order-insert ks zero key s gap = (gap.above, s)
 in_order-insert [] (suc i) key s gap = (tt, tt)
 in_order-insert (k ∷ ks) (suc i) key s gap = (all_insert _ ks i key s.0 (below_from_above key k gap.below.0), in_order-insert ks i key s.1 (gap_tail key k ks i gap))
 
+-- one pair alone is a run
+pub pair_run : {V : Type 0} (key : List ℕ) (value : V) → IsRun (key ∷ []) (value ∷ [])
+unfolding IsStrictlySortedBy
+pair_run key value = record { as_many = refl; at_most = omega arith; in_order = (tt, tt) }
+
 pub in_order-remove : (ks : List (List ℕ)) (i : ℕ) → IsStrictlySortedBy key_cmp ks → IsStrictlySortedBy key_cmp (remove ks i)
 unfolding IsStrictlySortedBy
 in_order-remove [] zero s = tt
@@ -145,9 +148,26 @@ in_order-remove [] (suc i) s = tt
 in_order-remove (k ∷ ks) zero s = s.1
 in_order-remove (k ∷ ks) (suc i) s = (all_remove _ ks i s.0, in_order-remove ks i s.1)
 
+all_take : {X : Type 0} (P : X → Type 0) (n : ℕ) (xs : List X) → AllByRecursion P xs → AllByRecursion P (take n xs)
+all_take P zero xs all = tt
+all_take P (suc n) [] all = tt
+all_take P (suc n) (x ∷ xs) all = (all.0, all_take P n xs all.1)
+
+in_order-take : (n : ℕ) (ks : List (List ℕ)) → IsStrictlySortedBy key_cmp ks → IsStrictlySortedBy key_cmp (take n ks)
+unfolding IsStrictlySortedBy
+in_order-take zero ks s = tt
+in_order-take (suc n) [] s = tt
+in_order-take (suc n) (k ∷ ks) s = (all_take _ n ks s.0, in_order-take n ks s.1)
+
+in_order-drop : (n : ℕ) (ks : List (List ℕ)) → IsStrictlySortedBy key_cmp ks → IsStrictlySortedBy key_cmp (drop n ks)
+unfolding IsStrictlySortedBy
+in_order-drop zero ks s = s
+in_order-drop (suc n) [] s = tt
+in_order-drop (suc n) (k ∷ ks) s = in_order-drop n ks s.1
+
 -- ---- what reaches a bound
 
-is_less : (o : Ordering) → is_lt o ≡ true → o ≡ Less
+pub is_less : (o : Ordering) → is_lt o ≡ true → o ≡ Less
 is_less Less at = refl
 is_less Equal at = absurd (false≢true at)
 is_less Greater at = absurd (false≢true at)
@@ -262,6 +282,13 @@ no_pair (a ∷ ks) [] i past = refl
 no_pair (a ∷ ks) (b ∷ vs) zero past = absurd (none-some a (sym past))
 no_pair (a ∷ ks) (b ∷ vs) (suc i) past = no_pair ks vs i past
 
+-- the same with a default
+pub read_some : {R X : Type 0} (now : R → X) (xs : List X) (i : ℕ) (d : X) (r : Option R) (x : R) → ItemBy now xs i i r → r ≡ Some x → get_or xs i d ≡ now x
+read_some now xs i d r x item is = sym (item.4 (omega arith) d) ∙ ap (λ o. unwrap_or (option_map now o) d) is
+
+pub read_none : {R X : Type 0} (now : R → X) (xs : List X) (i : ℕ) (d : X) (r : Option R) → ItemBy now xs i i r → r ≡ None → get_or xs i d ≡ d
+read_none now xs i d r item is = sym (item.4 (omega arith) d) ∙ ap (λ o. unwrap_or (option_map now o) d) is
+
 module _ {V : Type 0} (ks : List (List ℕ)) (vs : List V) (run : IsRun ks vs) where
   -- the keys of the pairs of a run
   pub in_order_pairs : IsInOrder (zip ks vs)
@@ -282,19 +309,39 @@ module _ {V : Type 0} (ks : List (List ℕ)) (vs : List V) (run : IsRun ks vs) w
 
   -- what an edit at a place leaves is a run
   pub run_set : (i : ℕ) (w : V) → IsRun ks (slice_set vs i w)
-  run_set i w = record { as_many = run.as_many ∙ sym (length-set vs i w); in_order = run.in_order }
+  run_set i w = record { as_many = run.as_many ∙ sym (length-set vs i w); at_most = run.at_most; in_order = run.in_order }
 
-  pub run_insert : (key : List ℕ) (i : ℕ) (w : V) → IsGapAt ks key i → IsRun (insert ks i key) (insert vs i w)
-  run_insert key i w gap = record {
+  pub run_insert : (key : List ℕ) (i : ℕ) (w : V) → length ks < 128 → IsGapAt ks key i → IsRun (insert ks i key) (insert vs i w)
+  run_insert key i w room gap = record {
+    at_most = omega (arith, room, gap.in_range, length-insert ks i key gap.in_range);
     as_many = omega (arith, run.as_many, gap.in_range, length-insert ks i key gap.in_range, length-insert vs i w (omega (arith, run.as_many, gap.in_range)));
     in_order = in_order-insert ks i key run.in_order gap;
   }
 
   pub run_remove : (i : ℕ) → i < length ks → IsRun (remove ks i) (remove vs i)
   run_remove i within = record {
+    at_most = omega (arith, run.at_most, length-remove ks i within);
     as_many = omega (arith, run.as_many, length-remove ks i within, length-remove vs i (omega (arith, run.as_many)));
     in_order = in_order-remove ks i run.in_order;
   }
+
+  -- both halves of a run are runs, and their pairs are its pairs
+  pub run_take : (n : ℕ) → IsRun (take n ks) (take n vs)
+  run_take n = record {
+    as_many = length-take n ks ∙ ap (λ m. min n m) run.as_many ∙ sym (length-take n vs);
+    at_most = omega (arith, run.at_most, length-take n ks);
+    in_order = in_order-take n ks run.in_order;
+  }
+
+  pub run_drop : (n : ℕ) → IsRun (drop n ks) (drop n vs)
+  run_drop n = record {
+    as_many = omega (arith, run.as_many, length-drop n ks, length-drop n vs);
+    at_most = omega (arith, run.at_most, length-drop n ks);
+    in_order = in_order-drop n ks run.in_order;
+  }
+
+  pub length_run : length (zip ks vs) ≡ length ks
+  length_run = omega (arith, length-zip ks vs, run.as_many)
 
   module _ (from : List ℕ) (strict : Bool) where
     -- reads of both vectors at the place where the keys begin that reach the bound give the first pair
@@ -307,3 +354,20 @@ module _ {V : Type 0} (ks : List (List ℕ)) (vs : List V) (run : IsRun ks vs) w
     none_from-lent key i start r at_key none =
         first_from-start ks vs from strict i run.as_many start
         ∙ no_pair ks vs i (sym (lent_item key ks i r at_key) ∙ ap (option_map key) none)
+
+zip-nothing : {V : Type 0} (ks : List (List ℕ)) → zip {X = V} ks [] ≡ []
+zip-nothing [] = refl
+zip-nothing (k ∷ ks) = refl
+
+-- the pairs of a run are those of its halves
+pub zip-halves : {V : Type 0} (n : ℕ) (ks : List (List ℕ)) (vs : List V) → zip ks vs ≡ zip (take n ks) (take n vs) ++ zip (drop n ks) (drop n vs)
+zip-halves zero ks vs = refl
+zip-halves (suc n) [] vs = refl
+zip-halves (suc n) (k ∷ ks) [] = sym (zip-nothing (drop n ks))
+zip-halves (suc n) (k ∷ ks) (v ∷ vs) = ap (λ pairs. (k, v) ∷ pairs) (zip-halves n ks vs)
+
+-- the first key of a run's pairs
+pub first_key-zip : {V : Type 0} (ks : List (List ℕ)) (vs : List V) → length ks ≡ length vs → first_key (zip ks vs) ≡ get_or ks 0 []
+first_key-zip [] vs same = refl
+first_key-zip (k ∷ ks) [] same = absurd (omega (arith, same))
+first_key-zip (k ∷ ks) (v ∷ vs) same = refl

@@ -6,9 +6,10 @@ use Rattle.std.specs.declared.cmp.Ordering.TheVariants.{Less, Greater}
 use Rattle.ltx_model.specs.Keys.{key_cmp}
 use Rattle.ltx_index.specs.Pairs.{reaches}
 
--- keys in rising order, with as many values
+-- at most 128 keys in rising order, with as many values
 pub record IsRun {V : Type 0} (keys : List (List ℕ)) (values : List V) : Type 0 where
   pub as_many : length keys ≡ length values
+  pub at_most : length keys ≤ 128
   pub in_order : IsStrictlySortedBy key_cmp keys
 
 -- all keys are below this one

@@ -1,7 +1,7 @@
-//! A sorted run of pairs: keys in one vector, their values in another, at equal places.
-//! The index is made of such runs; each is an ordered map of its own.
+//! A leaf of the index: a sorted run of at most 128 pairs, with the keys in one vector and their
+//! values in another, at equal places. Each is an ordered map of its own, but for its limit.
 
-ghost use Rattle.std.specs.Prelude.{◌≡◌, ◌≤◌, [], IsSome, IsOk, IfOk, IfErr, OnErr, not, vec_len, insert};
+ghost use Rattle.std.specs.Prelude.{◌≡◌, ◌≤◌, [], IsSome, IsOk, IfOk, IfErr, IfSome, IfNone, OnErr, IsTrue, not, vec_len, insert, ◌<◌, ◌++◌, ◌∷◌, ◌↔◌, length, take, drop};
 ghost use Rattle.std.specs.Borrow.{LendsIf, sem};
 ghost use Rattle.std.specs.List.Sorted.{IsStrictlySortedBy};
 ghost use Rattle.std.specs.Map.Iter.{deref_pair};
@@ -9,12 +9,16 @@ ghost use Rattle.std.specs.Option.{option_copied, option_copied_mut, option_map}
 ghost use Rattle.ltx_model.specs.Keys.{key_cmp};
 ghost use Rattle.ltx_index.specs.Pairs.{IsInOrder, value_at, with_value, with_pair, without_key, first_from, reaches};
 ghost use Rattle.ltx_index.specs.Places.{IsFoundAt, IsGapAt, IsStartAt};
+ghost use Rattle.ltx_index.specs.Leaves.{first_key};
 ghost use Rattle.ltx_index.specs.contracts.leaf.Leaf.{the_row};
 
 use ltx_model::bytes::Key;
 use std::alloc::Global;
 use std::cmp::Ordering;
 use std::marker::Model;
+
+/// How many pairs a leaf holds at most, so that the cost of an insert does not grow with the map.
+const MOST: usize = 128;
 
 /// A sorted run of pairs.
 #[derive(Debug, Drop)]
@@ -36,13 +40,33 @@ impl<V> Model for Leaf<V> {
 }
 
 impl<V> Leaf<V> {
-    /// An empty run, which takes no memory.
-    pub fn new(alloc: Global) -> Leaf<V>
-        ensures { result ≡ [] }
+    /// A run of one pair. For want of memory it hands the pair back.
+    pub fn of_pair(alloc: Global, key: Key, value: V) -> Result<Leaf<V>, (Key, V)>
+    where
+        V: Drop,
+        ensures leaf { IfOk result (λ leaf. leaf ≡ (key, value) ∷ []) }
+        ensures back { IfErr result (λ pair. pair ≡ (key, value)) }
     {
-        Leaf {
-            keys: Vec::new(alloc),
-            values: Vec::new(alloc),
+        let mut keys = Vec::new(alloc);
+        let mut values = Vec::new(alloc);
+        put_at(&mut keys, &mut values, 0, key, value)?;
+        Ok(Leaf { keys, values })
+    }
+
+    /// Whether there is no pair.
+    pub fn is_empty(&self) -> bool
+        ensures { IsTrue result ↔ (length self.now ≡ 0) }
+    {
+        self.keys.is_empty()
+    }
+
+    /// The first key's bytes; none where the run is empty.
+    pub fn first(&self) -> &[u8]
+        ensures { result.now ≡ first_key self.now }
+    {
+        match self.keys.first() {
+            Some(key) => key.bytes(),
+            None => &[],
         }
     }
 
@@ -78,8 +102,8 @@ impl<V> Leaf<V> {
         Some((self.keys.get(at)?, self.values.get(at)?))
     }
 
-    /// Puts the value at the key and gives the one that stood there. For want of memory it hands
-    /// the pair back, and the run is as before.
+    /// Puts the value at the key and gives the one that stood there. Where the run is full, and
+    /// for want of memory, it hands the pair of a new key back, and the run is as before.
     pub fn insert(&mut self, key: Key, value: V) -> Result<Option<V>, (Key, V)>
         ensures old { IfOk result (λ before. before ≡ value_at self.old key) }
         ensures put { IfOk result (λ _. self.new ≡ with_pair self.old key value) }
@@ -91,6 +115,9 @@ impl<V> Leaf<V> {
         match place(&self.keys, &key) {
             Ok(at) => Ok(Some(std::mem::replace(&mut self.values[at], value))),
             Err(at) => {
+                if self.keys.len() >= MOST {
+                    return Err((key, value));
+                }
                 put_at(&mut self.keys, &mut self.values, at, key, value)?;
                 Ok(None)
             }
@@ -101,6 +128,7 @@ impl<V> Leaf<V> {
     pub fn remove(&mut self, key: &Key) -> Option<V>
         ensures value { result ≡ value_at self.old key.now }
         ensures taken { self.new ≡ without_key self.old key.now }
+        ensures absent { IfNone result (self.new ≡ self.old) }
         ensures in_order { IsInOrder self.new }
     {
         match place(&self.keys, key) {
@@ -110,6 +138,20 @@ impl<V> Leaf<V> {
             }
             Err(_) => None,
         }
+    }
+
+    /// Splits a full run and gives its upper half. Where it is not full, and for want of memory,
+    /// there is none, and the run is as before.
+    pub fn split_full(&mut self) -> Option<Leaf<V>>
+        ensures halves { IfSome result (λ upper. self.old ≡ self.new ++ upper) }
+        ensures filled { IfSome result (λ upper. (0 < length self.new) × (0 < length upper)) }
+        ensures kept { IfNone result (self.new ≡ self.old) }
+    {
+        if self.keys.len() < MOST {
+            return None;
+        }
+        let (keys, values) = split_at(&mut self.keys, &mut self.values, MOST / 2)?;
+        Some(Leaf { keys, values })
     }
 }
 
@@ -127,14 +169,14 @@ fn start(keys: &[Key], from: &[u8], strict: bool) -> usize
     requires { IsStrictlySortedBy key_cmp keys.now }
     ensures { IsStartAt keys.now from.now strict result }
 {
-    keys.partition_point(|k| falls_short(k, from, strict))
+    keys.partition_point(|k| falls_short(k.bytes(), from, strict))
 }
 
-// The key is below the bound, or at it where strict.
-fn falls_short(key: &Key, from: &[u8], strict: bool) -> bool
+/// The key is below the bound, or at it where strict.
+pub fn falls_short(key: &[u8], from: &[u8], strict: bool) -> bool
     ensures { result ≡ not (reaches from.now strict key.now) }
 {
-    match from.cmp(key.bytes()) {
+    match from.cmp(key) {
         Ordering::Less => false,
         Ordering::Equal => strict,
         Ordering::Greater => true,
@@ -165,4 +207,28 @@ fn put_at<V>(
     // There is room for it.
     let _ = keys.insert(at, key);
     Ok(())
+}
+
+// Takes what stands from the place on out of both vectors, or leaves both for want of memory.
+fn split_at<V>(keys: &mut Vec<Key>, values: &mut Vec<V>, at: usize) -> Option<(Vec<Key>, Vec<V>)>
+    requires in_keys { at ≤ vec_len keys.old }
+    requires in_values { at ≤ vec_len values.old }
+    ensures keys_kept { IfSome result (λ _. keys.new.items ≡ take at keys.old.items) }
+    ensures values_kept { IfSome result (λ _. values.new.items ≡ take at values.old.items) }
+    ensures keys_taken { IfSome result (λ upper. upper.0.items ≡ drop at keys.old.items) }
+    ensures values_taken { IfSome result (λ upper. upper.1.items ≡ drop at values.old.items) }
+    ensures kept { IfNone result ((keys.new.items ≡ keys.old.items) × (values.new.items ≡ values.old.items)) }
+{
+    let mut upper = match keys.split_off(at) {
+        Ok(upper) => upper,
+        Err(_) => return None,
+    };
+    match values.split_off(at) {
+        Ok(others) => Some((upper, others)),
+        Err(_) => {
+            // They go back into the room that they left.
+            let _ = keys.append(&mut upper);
+            None
+        }
+    }
 }

@@ -1,4 +1,4 @@
-use Rattle.std.proofs.Common.{refl, sym}
+use Rattle.std.proofs.Common.{◌<◌, length, refl, sym, arith}
 use Rattle.ltx_index.proofs.Places.{in_order_pairs, value_at-read, value_at-gap, with_pair-found, with_pair-gap, nothing_in_gap, run_set, run_insert}
 use Rattle.ltx_index.proofs.leaf.Leaf.insert.Goals as goal
 
@@ -6,7 +6,8 @@ pub invariant_of-self-in-Err : goal.invariant_of-self-in-Err
 invariant_of-self-in-Err g c =
     let gap = rw c.deref.ensures.value at c.in-Err.ensures.absent in
     let put = c.in_ok-put_at-in-Err.ensures in
-    rw (put.key_put, put.value_put) (run_insert _ _ c.self.invariant c.args.key c.in-Err.at c.args.value gap)
+    let room : length c.self.inside.keys.items < 128 = omega (arith, c.if-len-ge-MOST.false, c.len.ensures) in
+    rw (put.key_put, put.value_put) (run_insert _ _ c.self.invariant c.args.key c.in-Err.at c.args.value room gap)
 
 pub returns-in-Ok : goal.returns-in-Ok
 returns-in-Ok g c =
@@ -34,7 +35,8 @@ returns-in_ok-put_at-in-Err g c =
     let values = c.self.inside.values.items in
     let gap = rw c.deref.ensures.value at c.in-Err.ensures.absent in
     let put = c.in_ok-put_at-in-Err.ensures in
-    let run = run_insert keys values c.self.invariant c.args.key c.in-Err.at c.args.value gap in
+    let room : length c.self.inside.keys.items < 128 = omega (arith, c.if-len-ge-MOST.false, c.len.ensures) in
+    let run = run_insert keys values c.self.invariant c.args.key c.in-Err.at c.args.value room gap in
     rw (← c.self.view_is, put.key_put, put.value_put) record {
       old = sym (value_at-gap c.args.key keys values c.in-Err.at gap);
       put = sym (with_pair-gap c.args.key keys values c.in-Err.at c.args.value c.self.invariant.as_many gap);
@@ -48,3 +50,12 @@ pub returns-in_err-put_at-in-Err-clause-overwrites : goal.returns-in_err-put_at-
 returns-in_err-put_at-in-Err-clause-overwrites g c stands =
     let gap = rw c.deref.ensures.value at c.in-Err.ensures.absent in
     absurd (nothing_in_gap c.args.key _ _ c.in-Err.at gap (rw (← c.self.view_is) at stands))
+
+-- the run is full
+pub returns-then-len-ge-MOST-clause-overwrites : goal.returns-then-len-ge-MOST-clause-overwrites
+returns-then-len-ge-MOST-clause-overwrites g c stands =
+    let gap = rw c.deref.ensures.value at c.in-Err.ensures.absent in
+    absurd (nothing_in_gap c.args.key _ _ c.in-Err.at gap (rw (← c.self.view_is) at stands))
+
+pub returns-then-len-ge-MOST-clause-in_order : goal.returns-then-len-ge-MOST-clause-in_order
+returns-then-len-ge-MOST-clause-in_order g c = rw (← c.self.view_is) (in_order_pairs _ _ c.self.invariant)

@@ -1,4 +1,4 @@
-use Rattle.std.proofs.Common.{sym}
+use Rattle.std.proofs.Common.{refl, sym}
 use Rattle.ltx_index.proofs.Places.{in_order_pairs, value_at-read, value_at-gap, without_key-found, without_key-gap, run_remove}
 use Rattle.ltx_index.proofs.leaf.Leaf.remove.Goals as goal
 
@@ -16,6 +16,7 @@ returns-in-Ok g c =
     rw (c.remove.ensures.items, c.remove-in-Ok.ensures.items, ← c.self.view_is) record {
       value = sym (value_at-read keys values c.self.invariant c.args.key.now c.in-Ok.at c.remove-in-Ok.result found c.remove-in-Ok.ensures.value);
       taken = sym (without_key-found c.args.key.now keys values c.in-Ok.at c.self.invariant.as_many found);
+      absent = tt;
       in_order = in_order_pairs _ _ run;
     }
 
@@ -27,5 +28,6 @@ returns-in-Err g c =
     rw (← c.self.view_is) record {
       value = sym (value_at-gap c.args.key.now keys values c.in-Err.field-0 gap);
       taken = sym (without_key-gap c.args.key.now keys values c.in-Err.field-0 gap);
+      absent = refl;
       in_order = in_order_pairs keys values c.self.invariant;
     }
