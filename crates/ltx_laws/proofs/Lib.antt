@@ -13,6 +13,7 @@ pub mod StructureSlots
 pub mod Structures
 pub mod Told
 pub mod Unread
+pub mod LiveStates
 pub mod Transitions
 pub mod ReadsWitnesses
 pub mod ReadsPlaces

@@ -17,14 +17,10 @@ use Rattle.ltx_model.specs.States.{Kind, IsShort, IsPending, IsLive, Step, Activ
 use Rattle.ltx_model.specs.Histories.{session_of, with_step, begun, answered, closed, moved, left, ended, slot_after, slots_after, in_epoch, advanced, durable_if, made_durable, after, state, state_from}
 use Rattle.ltx_model.specs.Answers.{staged, IsLegalFrom, IsLegalWith}
 use Rattle.ltx_model.specs.Explained.{Open, is_session, Begins, Answers, Commits, Ends, Leaves, effect_of, with_answer, opens_in, opens_after, commit_in_session, committed_by, opens_from, committed_from, committed_in}
-use Rattle.ltx_laws.specs.Structure.{open_of}
+use Rattle.ltx_laws.specs.Told.{open_of, opens_of}
 use Rattle.ltx_laws.proofs.Transitions.{Cases, asks, entry_case}
 use Rattle.ltx_laws.proofs.Standing.{commits_push, commits_none}
 use Rattle.ltx_laws.proofs.StructureSlots.{live_in, slots_active}
-
--- the open transactions as the entries tell them
-abbrev pub opens_of : List Active → List Open
-opens_of active = map open_of active
 
 map_push : {A B : Type 0} (f : A → B) (xs : List A) (y : A) → map f (xs ++ y ∷ []) ≡ map f xs ++ f y ∷ []
 map_push f [] y = refl

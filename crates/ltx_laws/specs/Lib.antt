@@ -1,3 +1,4 @@
 pub mod Structure
 pub mod Orders
 pub mod Guards
+pub mod Told

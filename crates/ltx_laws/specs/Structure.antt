@@ -3,8 +3,7 @@ use Rattle.std.specs.Prelude.{◌≡◌, ◌≢◌, ℕ, ◌<◌, ◌≤◌, Boo
 use Rattle.std.specs.List.{list_any, AllByRecursion}
 use Rattle.ltx_model.specs.Operations.{Transaction}
 use Rattle.ltx_model.specs.Agenda.{Member, LiveSlot, Committed, number_of, is_member, Move, Slot, CommitShort, CommitHome, CommitBefore, Leave, Timed, agenda_from, serial, is_slot, commits_of, commits_batch, moves_since, moves_until, part_before}
-use Rattle.ltx_model.specs.States.{Declaration, Kind, IsShort, IsPending, IsLive, Step, Active, transaction_of, Base, State}
-use Rattle.ltx_model.specs.Explained.{Open}
+use Rattle.ltx_model.specs.States.{Declaration, Kind, IsShort, IsPending, IsLive, Step, Active, Base, State}
 use Rattle.ltx_model.specs.Answers.{refusal}
 
 -- each item of a list stands in the relation to each later one
@@ -106,10 +105,6 @@ StandsAs agenda moves (IsLive d snapshot) n steps = IsLiveBatch agenda moves n d
 -- an open transaction stands by its kind
 abbrev pub Stands : List Member → List Timed → Active → Type 0
 Stands agenda moves o = StandsAs agenda moves o.kind o.number o.steps
-
--- an open transaction as the entries of a history tell it
-abbrev pub open_of : Active → Open
-open_of o = record { session = o.session; tx = transaction_of o }
 
 -- The structure of a state that a legal history leads to.
 pub record Structure (base : Base) (s : State) : Type 0 where

@@ -3,3 +3,4 @@
 
 pub mod floor;
 pub mod serial_order;
+pub mod states;

@@ -1,0 +1,48 @@
+//! States: what a state keeps in every legal history, read off its open transactions, moves and agenda.
+
+ghost use Rattle.std.specs.Prelude.{◌≡◌, ℕ, Bool, List, [], Contains};
+ghost use Rattle.ltx_model.specs.declared.commands.Line.{Line};
+ghost use Rattle.ltx_model.specs.declared.replies.Entry.{Entry};
+ghost use Rattle.ltx_model.specs.Agenda.{agenda_from, commits_of, moves_until, serial};
+ghost use Rattle.ltx_model.specs.States.{Base, IsSound, State, LiveBatch, live_batches};
+ghost use Rattle.ltx_model.specs.Histories.{state};
+ghost use Rattle.ltx_model.specs.Answers.{IsLegalWith};
+ghost use Rattle.ltx_model.specs.Explained.{committed_in};
+ghost use Rattle.ltx_laws.specs.Structure.{AreOpen, Structure};
+ghost use Rattle.ltx_laws.specs.Told.{opens_of};
+ghost use Rattle.ltx_model.specs.Explained.{opens_from};
+
+/// The open transactions stand in strictly rising order of numbers, above the base's last number and up to the state's, and no
+/// session has two of them.
+pub fn open_transactions_stand_in_order()
+    ensures order { (built : State → Line → Bool) (base : Base) (history : List Entry) → IsSound base
+        → IsLegalWith built base history → AreOpen base (state base history).last (state base history).active }
+{}
+
+/// The agenda is what the moves give, one after another, on an empty list.
+pub fn agenda_is_what_moves_give()
+    ensures agenda { (built : State → Line → Bool) (base : Base) (history : List Entry) → IsSound base
+        → IsLegalWith built base history → (state base history).agenda ≡ agenda_from [] (state base history).moves }
+{}
+
+/// The snapshot of a live batch is the serial order that the moves before its slot give.
+pub fn snapshot_is_order_before_slot()
+    ensures snapshot { (built : State → Line → Bool) (base : Base) (history : List Entry) → IsSound base
+        → IsLegalWith built base history
+        → (b : LiveBatch) → Contains (live_batches (state base history)) b
+        → b.snapshot ≡ serial (agenda_from [] (moves_until b.tx.number (state base history).moves)) }
+{}
+
+/// What the entries tell is what the state has: the transactions that are open, and those that were committed, in time.
+pub fn entries_tell_the_state()
+    ensures committed { (built : State → Line → Bool) (base : Base) (history : List Entry) → IsSound base
+        → IsLegalWith built base history → committed_in history ≡ commits_of (state base history).moves }
+    ensures opens { (built : State → Line → Bool) (base : Base) (history : List Entry) → IsSound base
+        → IsLegalWith built base history → opens_of (state base history).active ≡ opens_from [] history }
+{}
+
+/// The structure of the state: numbers, open transactions by their kind, slots, and the agenda's members and their order.
+pub fn states_have_structure()
+    ensures structure { (built : State → Line → Bool) (base : Base) (history : List Entry) → IsSound base
+        → IsLegalWith built base history → Structure base (state base history) }
+{}
