@@ -1,4 +1,5 @@
 pub mod Agendas
+pub mod CommitCases
 pub mod Guarded
 pub mod GuardedStates
 pub mod Pairs

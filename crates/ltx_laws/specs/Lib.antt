@@ -2,3 +2,4 @@ pub mod Structure
 pub mod Orders
 pub mod Guards
 pub mod Told
+pub mod Commits
