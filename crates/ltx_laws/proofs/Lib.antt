@@ -1,9 +1,11 @@
 pub mod Agendas
 pub mod CommitCases
+pub mod Forwarded
 pub mod Guarded
 pub mod GuardedStates
 pub mod Pairs
 pub mod Places
+pub mod PlacesByCommit
 pub mod Snapshots
 pub mod Spared
 pub mod Standing

@@ -3,9 +3,8 @@ use Rattle.std.specs.Prelude.{◌≡◌, ℕ, List, ◌∷◌, ◌++◌, Some}
 use Rattle.ltx_model.specs.declared.replies.Entry.{Entry}
 use Rattle.ltx_model.specs.declared.replies.Reply.{Reply}
 use Rattle.ltx_model.specs.declared.replies.Reply.TheVariants as replies
-use Rattle.ltx_model.specs.Operations.{Transaction}
 use Rattle.ltx_model.specs.Agenda.{Member, number_of}
-use Rattle.ltx_model.specs.States.{Active, transaction_of, Base, State, active_of}
+use Rattle.ltx_model.specs.States.{Active, Base, State, active_of}
 use Rattle.ltx_model.specs.Histories.{session_of, state}
 use Rattle.ltx_model.specs.Explained.{effect_of, Commits}
 
@@ -24,14 +23,14 @@ IsHomeReply reply = (epoch : ℕ) × (reply ≡ replies.Committed epoch)
 abbrev pub IsForwardedReply : Reply → ℕ → Type 0
 IsForwardedReply reply target = (epoch : ℕ) × (reply ≡ replies.CommittedBefore epoch target)
 
--- The history prints the transaction as forwarded: one of its entries commits it, with a reply that names a target.
-pub record IsPrintedForwarded (base : Base) (history : List Entry) (t : Transaction) : Type 0 where
+-- The history prints the transaction n as forwarded: one of its entries commits it, with a reply that names a target.
+pub record IsPrintedForwarded (base : Base) (history : List Entry) (n : ℕ) : Type 0 where
   pub before : List Entry
   pub entry : Entry
   pub later : List Entry
   pub parts : history ≡ before ++ entry ∷ later
   pub active : Active
-  pub tx : transaction_of active ≡ t
+  pub number : active.number ≡ n
   pub commit : IsCommitOf (state base before) entry active
   pub target : ℕ
   pub printed : IsForwardedReply entry.reply target

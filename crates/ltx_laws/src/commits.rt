@@ -1,0 +1,48 @@
+//! Where transactions stand in the serial order, by how they were committed.
+
+ghost use Rattle.std.specs.Prelude.{◌≡◌, ℕ, ◌<◌, Bool, true, List, [], ◌∷◌, ◌++◌, Contains};
+ghost use Rattle.ltx_model.specs.declared.commands.Line.{Line};
+ghost use Rattle.ltx_model.specs.declared.replies.Entry.{Entry};
+ghost use Rattle.ltx_model.specs.Operations.{Transaction};
+ghost use Rattle.ltx_model.specs.Agenda.{serial};
+ghost use Rattle.ltx_model.specs.States.{Declaration, IsShort, IsLive, Active, Base, IsSound, State, order};
+ghost use Rattle.ltx_model.specs.Histories.{state};
+ghost use Rattle.ltx_model.specs.Answers.{IsLegalWith};
+ghost use Rattle.ltx_laws.specs.Commits.{IsCommitOf, IsHomeReply, IsForwardedReply, IsPrintedForwarded, StandsJustBefore};
+ghost use Rattle.ltx_laws.specs.Orders.{StandsBefore};
+ghost use Rattle.ltx_laws.specs.Structure.{has_slot};
+
+/// A committed short stands after every transaction that was committed before it, in every longer history.
+pub fn short_stands_after_the_committed()
+    ensures after { (built : State → Line → Bool) (base : Base) (history more : List Entry) (entry : Entry) → IsSound base
+        → IsLegalWith built base (history ++ entry ∷ more)
+        → (o : Active) → IsCommitOf (state base history) entry o → o.kind ≡ IsShort
+        → (t : Transaction) → Contains (serial (state base history).agenda) t
+        → StandsBefore (order (state base (history ++ entry ∷ more))) t.number o.number }
+{}
+
+/// A batch that committed at home stands after every member of its snapshot, in every longer history.
+pub fn home_stands_after_its_snapshot()
+    ensures after { (built : State → Line → Bool) (base : Base) (history more : List Entry) (entry : Entry) → IsSound base
+        → IsLegalWith built base (history ++ entry ∷ more)
+        → (o : Active) (d : Declaration) (snapshot : List Transaction) → IsCommitOf (state base history) entry o
+        → o.kind ≡ IsLive d snapshot → IsHomeReply entry.reply → (t : Transaction) → Contains snapshot t
+        → StandsBefore (order (state base (history ++ entry ∷ more))) t.number o.number }
+{}
+
+/// A forwarded batch was placed immediately before its printed target. (A later batch may be placed between them.)
+pub fn forwarded_stands_just_before_its_target()
+    ensures placed { (built : State → Line → Bool) (base : Base) (history : List Entry) (entry : Entry) → IsSound base
+        → IsLegalWith built base (history ++ entry ∷ [])
+        → (o : Active) (target : ℕ) → IsCommitOf (state base history) entry o → IsForwardedReply entry.reply target
+        → StandsJustBefore (state base (history ++ entry ∷ [])).agenda o.number target }
+{}
+
+/// Of two committed batches that stand against their numbers, the one with the greater number was printed as forwarded. A
+/// batch is a transaction that had a slot.
+pub fn against_numbers_is_forwarded()
+    ensures printed { (built : State → Line → Bool) (base : Base) (history : List Entry) → IsSound base
+        → IsLegalWith built base history
+        → (a b : ℕ) → has_slot (state base history).moves a ≡ true → has_slot (state base history).moves b ≡ true
+        → a < b → StandsBefore (order (state base history)) b a → IsPrintedForwarded base history b }
+{}
