@@ -29,3 +29,4 @@ pub mod FloorCounts
 pub mod FloorSteps
 pub mod Floors
 pub mod ExplainedHistories
+pub mod DropsLists

@@ -3,3 +3,4 @@ pub mod Orders
 pub mod Guards
 pub mod Told
 pub mod Commits
+pub mod Drops

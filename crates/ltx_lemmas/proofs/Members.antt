@@ -6,7 +6,7 @@ use Rattle.ltx_model.specs.Operations.{Transaction}
 use Rattle.ltx_model.specs.Agenda.{Member, Committed, number_of, has_number, is_member, without_member, insert_before, commit_at_slot, part_before, part_from}
 use Rattle.ltx_model.specs.Explained.{IsDistinct}
 use Rattle.ltx_lemmas.specs.Places.{is_before, is_at_or_after, AreApart}
-use Rattle.ltx_lemmas.proofs.Lists.{true_false, any_append, any_map, any_contains, any_item, before_fails, any_none_all, parts_join, before_within, before_past, before_contains, from_contains, any_not_all, contains_none, contains_cases}
+use Rattle.ltx_lemmas.proofs.Lists.{true_false, any_append, any_map, any_contains, any_item, before_fails, any_none_all, parts_join, before_within, before_past, before_contains, from_contains, any_not_all, contains_none, contains_here, contains_later, contains_cases}
 
 pub same_number : (n : ℕ) → (n == n) ≡ true
 same_number n = eq-eqb n n refl
@@ -290,3 +290,18 @@ from_cases ms a p apart e = by_one (is_one a p) where
   by_one (inr other) =
       let here : is_member ms a ≡ true = member_parts ms a p ∙ or_right (is_before ms a p) (is_at_or_after ms a p) e in
       inr (before_total ms a p here other (from_not_before ms a p apart e))
+
+-- a member after one is put before another
+pub insert_item : (x : Member) (p : ℕ) (ms : List Member) (y : Member) → Contains (insert_before x p ms) y → (x ≡ y) ⊎ Contains ms y
+insert_item x p [] y c = absurd (contains_none y c)
+insert_item x p (m ∷ ms) y c = by_test (has_number p m) c (insert_item x p ms y) where
+  by_test : (b : Bool) → Contains (cond b (x ∷ m ∷ ms) (m ∷ insert_before x p ms)) y → (Contains (insert_before x p ms) y → (x ≡ y) ⊎ Contains ms y) → (x ≡ y) ⊎ Contains (m ∷ ms) y
+  by_test true c later = contains_cases x (m ∷ ms) y c
+  by_test false c later = by_place (contains_cases m (insert_before x p ms) y c) where
+    by_rest : (x ≡ y) ⊎ Contains ms y → (x ≡ y) ⊎ Contains (m ∷ ms) y
+    by_rest (inl e) = inl e
+    by_rest (inr d) = inr (contains_later m ms y d)
+
+    by_place : (m ≡ y) ⊎ Contains (insert_before x p ms) y → (x ≡ y) ⊎ Contains (m ∷ ms) y
+    by_place (inl e) = inr (subst (λ z. Contains (z ∷ ms) y) (sym e) (contains_here y ms))
+    by_place (inr d) = by_rest (later d)
