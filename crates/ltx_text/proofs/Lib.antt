@@ -2,4 +2,5 @@ pub mod BlockLemmas
 pub mod DecimalLemmas
 pub mod LineGiven
 pub mod LineLemmas
+pub mod LineRuns
 pub mod WordLemmas

@@ -31,6 +31,10 @@ pub record LinesState : Type 0 where
   pub taken : ℕ
   pub limit : ℕ
 
+-- a reader that has taken nothing yet
+abbrev pub fresh : ℕ → LinesState
+fresh limit = record { held = []; taken = 0; limit = limit }
+
 -- the pieces that are to come at first are those given and those to come then, where the bytes to come are known
 abbrev pub GivesPieces : Option (List ℕ) → Option (List ℕ) → List (Option (List ℕ)) → Type 0
 GivesPieces None new given = ⊤

@@ -1,10 +1,10 @@
 //! The lines of a source, one at a time, for whoever runs a script.
 //! The bytes are taken in blocks, a read is made only where no whole line is held, and the held bytes
 //! outlive a fault.
-ghost use Rattle.std.specs.Prelude.{◌≡◌, ◌≢◌, ℕ, ◌+◌, ◌-◌, ◌≤◌, ◌<◌, ◌↔◌, [], ◌∷◌, ◌++◌, length, take, drop, slice_index, IfOk, OnOk, OnErr, IfSome, IsErrOf, MatchBool, MatchOption};
+ghost use Rattle.std.specs.Prelude.{◌≡◌, ◌≢◌, ℕ, List, Option, Some, ◌+◌, ◌-◌, ◌≤◌, ◌<◌, ◌↔◌, [], ◌∷◌, ◌++◌, length, take, drop, slice_index, IfOk, OnOk, OnErr, IfSome, IsErrOf, MatchBool, MatchOption};
 ghost use Rattle.std.specs.Io.KnownBytes.{Consumes, IsAtEnd};
 ghost use Rattle.ltx_outside.specs.Faults.{Rose};
-ghost use Rattle.ltx_text.specs.Lines.{Cuts, IsFirstFeed, feeds, piece_of, pieces_of};
+ghost use Rattle.ltx_text.specs.Lines.{Cuts, IsFirstFeed, LinesState, feeds, fresh, piece_of, pieces_of};
 ghost use Rattle.ltx_text.specs.Pieces.{OnEnd, OnLine, given};
 
 use crate::block::{Block, MOST_READ};
@@ -44,7 +44,7 @@ impl Lines {
     /// A reader that has taken nothing yet, and takes at most `limit` bytes, and one more to see whether
     /// there are more.
     pub fn new(alloc: Global, limit: u64) -> Result<Lines, NoMemory>
-        ensures { IfOk result (λ lines. lines ≡ record { held = []; taken = 0; limit = limit }) }
+        ensures { IfOk result (λ lines. lines ≡ fresh limit) }
     {
         Ok(Lines {
             alloc,
@@ -202,6 +202,27 @@ impl Lines {
         Ok(piece)
     }
 }
+
+/// What a caller rests on that asks again and again: the pieces are those of the bytes, in order.
+pub fn pieces_come_in_order()
+    // Several calls give what one call gives that takes and gives all of theirs.
+    ensures none { (state : LinesState) (left : Option (List ℕ)) → Cuts state state left left [] }
+    ensures more { (a b c : LinesState) (left_a left_b left_c : Option (List ℕ)) (first second : List (Option (List ℕ))) →
+        Cuts a b left_a left_b first → Cuts b c left_b left_c second → Cuts a c left_a left_c (first ++ second) }
+
+    // What was given so far is a front of the pieces, and at the end all of them.
+    ensures front { (limit : ℕ) (now : LinesState) (bytes : List ℕ) (left : Option (List ℕ)) (gave : List (Option (List ℕ))) →
+        Cuts (fresh limit) now (Some bytes) left gave → (rest : List (Option (List ℕ))) × (pieces_of bytes ≡ gave ++ rest) }
+    ensures all { (limit : ℕ) (now : LinesState) (bytes : List ℕ) (left : Option (List ℕ)) (gave : List (Option (List ℕ))) →
+        Cuts (fresh limit) now (Some bytes) left gave → now.held ≡ [] → IsAtEnd left → gave ≡ pieces_of bytes }
+
+    // Where no line feed is held, each line whose line feed was taken was given; and where none follows up to the limit, each whose line feed stands below it.
+    ensures taken { (limit : ℕ) (now : LinesState) (bytes : List ℕ) (left : Option (List ℕ)) (gave : List (Option (List ℕ))) →
+        Cuts (fresh limit) now (Some bytes) left gave → feeds now.held ≡ 0 → feeds (take now.taken bytes) ≤ length gave }
+    ensures below { (limit : ℕ) (now : LinesState) (bytes : List ℕ) (left : Option (List ℕ)) (gave : List (Option (List ℕ))) →
+        Cuts (fresh limit) now (Some bytes) left gave → now.taken ≤ limit → feeds now.held ≡ 0 →
+        IfSome left (λ more. feeds (take (limit - now.taken) more) ≡ 0) → feeds (take limit bytes) ≤ length gave }
+{}
 
 /// What is given of a line.
 fn piece_of(alloc: Global, line: &[u8]) -> Result<Piece, TextFault>
