@@ -1,13 +1,13 @@
 -- What a reader gives of the bytes that it holds.
 use Rattle.std.proofs.Common.{◌≡◌, ℕ, ◌+◌, ◌≤◌, List, [], ◌∷◌, ◌++◌, length, take, drop, Option, Some, None, Result, Ok, Err, OnOk, OnErr, refl, sym, ap, subst, ◌∙◌, append_assoc, arith}
-use Rattle.std.proofs.lemmas.List.{append-nil, take-append-drop, drop_more}
+use Rattle.std.proofs.lemmas.List.{append-nil, take-append-drop, drop_more, length-drop}
 use Rattle.std.specs.Io.KnownBytes.{IsAtEnd, prepend_known}
 use Rattle.std.proofs.KnownBytes.{Consumes-nil}
 use Rattle.ltx_text.specs.declared.piece.Piece.{Piece}
 use Rattle.ltx_text.specs.declared.piece.TextFault.{TextFault}
 use Rattle.ltx_text.specs.Lines.{LinesState, Cuts, GivesPieces, IsFirstFeed, feeds, piece_of, pieces_of}
 use Rattle.ltx_text.specs.Pieces.{given}
-use Rattle.ltx_text.proofs.LineLemmas.{Cuts-nothing, feeds-append, pieces_line, pieces_none}
+use Rattle.ltx_text.proofs.LineLemmas.{Cuts-nothing, feeds-append, pieces_are_few, pieces_line, pieces_none}
 
 -- bytes with a line feed are the line, the line feed and the bytes behind it
 parts_of : (bytes : List ℕ) (at : ℕ) → IsFirstFeed bytes at → bytes ≡ take at bytes ++ 10 ∷ drop (at + 1) bytes
@@ -15,13 +15,14 @@ parts_of bytes at first =
     sym (take-append-drop at bytes) ∙ ap (λ (t : List ℕ). take at bytes ++ t) (drop_more bytes at 0 first.within ∙ ap (λ (b : ℕ). b ∷ drop (at + 1) bytes) first.here)
 
 same_given : (old new : LinesState) (left : Option (List ℕ)) (given : List (Option (List ℕ))) → new.taken ≡ old.taken
-    → GivesPieces (prepend_known old.held left) (prepend_known new.held left) given → feeds old.held ≤ length given + feeds new.held → Cuts old new left left given
-same_given old new left given taken pieces ended = record {
+    → GivesPieces (prepend_known old.held left) (prepend_known new.held left) given → feeds old.held ≤ length given + feeds new.held → length given + length new.held ≤ length old.held → Cuts old new left left given
+same_given old new left given taken pieces ended fewer = record {
   bytes = [];
   consumed = Consumes-nil left;
   counted = omega (arith, taken);
   pieces = pieces;
   ended = omega (arith, ended);
+  fewer = omega (arith, fewer);
 }
 
 -- the line is given, and the bytes behind its line feed stay
@@ -31,7 +32,8 @@ gave_line (Err e) old new left at first piece state err = subst (λ (s : LinesSt
 gave_line (Ok p) old new left at first piece state err =
     subst (λ (g : List (Option (List ℕ))). Cuts old new left left g) (sym piece)
     (same_given old new left (piece_of (take at old.held) ∷ []) (ap (λ (s : LinesState). s.taken) state) (cut left)
-    (omega (arith, ap feeds parts, feeds-append (take at old.held) (10 ∷ drop (at + 1) old.held), first.before, ap (λ (s : LinesState). feeds s.held) state)))
+    (omega (arith, ap feeds parts, feeds-append (take at old.held) (10 ∷ drop (at + 1) old.held), first.before, ap (λ (s : LinesState). feeds s.held) state))
+    (omega (arith, first.within, length-drop (at + 1) old.held, ap (λ (s : LinesState). length s.held) state)))
   where
     parts : old.held ≡ take at old.held ++ 10 ∷ drop (at + 1) old.held
     parts = parts_of old.held at first
@@ -49,7 +51,8 @@ pub gave_last : (r : Result Piece TextFault) (old new : LinesState) (left : Opti
 gave_last (Err e) old new left unended end piece state err = subst (λ (s : LinesState). Cuts old s left left []) (sym err) (Cuts-nothing old left)
 gave_last (Ok p) old new left unended end piece state err =
     subst (λ (g : List (Option (List ℕ))). Cuts old new left left g) (sym piece)
-    (same_given old new left (pieces_of old.held) (ap (λ (s : LinesState). s.taken) state) (cut left end) (omega (arith, unended)))
+    (same_given old new left (pieces_of old.held) (ap (λ (s : LinesState). s.taken) state) (cut left end) (omega (arith, unended))
+    (omega (arith, pieces_are_few old.held unended, ap (λ (s : LinesState). length s.held) state)))
   where
     cut : (left : Option (List ℕ)) → IsAtEnd left → GivesPieces (prepend_known old.held left) (prepend_known new.held left) (pieces_of old.held)
     cut None end = tt

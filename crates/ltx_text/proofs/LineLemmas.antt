@@ -1,5 +1,5 @@
 -- The lines of bytes that are taken a part at a time.
-use Rattle.std.proofs.Common.{◌≡◌, ℕ, zero, suc, ◌+◌, ◌<◌, true, false, List, [], ◌∷◌, ◌++◌, map, length, take, drop, get_or, Option, Some, None, refl, sym, ap, subst, ◌∙◌, append_assoc, arith, inl, inr}
+use Rattle.std.proofs.Common.{◌≡◌, ℕ, zero, suc, ◌+◌, ◌<◌, ◌≤◌, true, false, List, [], ◌∷◌, ◌++◌, map, length, take, drop, get_or, Option, Some, None, refl, sym, ap, subst, ◌∙◌, append_assoc, arith, inl, inr}
 use Rattle.std.proofs.lemmas.List.{append-nil, length-append, length-take, take-append-drop, take_all}
 use Rattle.std.proofs.lemmas.Bool.{cases_Bool, cases_lt, eqb-true, lt-leb}
 use Rattle.std.specs.Prelude.{◌==◌, MatchOption}
@@ -102,6 +102,10 @@ pieces_none (b ∷ bytes) none = absurd (omega (arith, none))
 pub pieces_last : (bytes : List ℕ) → feeds bytes ≡ 0 → (length bytes ≡ 0 → ⊥) → piece_of bytes ∷ [] ≡ pieces_of bytes
 pieces_last bytes none some = ap (map piece_of) (sym (lines_of_last bytes none (omega (arith, some))))
 
+pub pieces_are_few : (bytes : List ℕ) → feeds bytes ≡ 0 → length (pieces_of bytes) ≤ length bytes
+pieces_are_few [] none = omega (arith, ap length (pieces_none [] refl))
+pieces_are_few (b ∷ bytes) none = omega (arith, ap length (pieces_last (b ∷ bytes) none (λ nothing. omega (arith, nothing))))
+
 pub pieces_line : (line rest : List ℕ) → feeds line ≡ 0 → pieces_of (line ++ 10 ∷ rest) ≡ piece_of line ∷ pieces_of rest
 pieces_line line rest none = ap (map piece_of) (lines_of_line line rest none)
 
@@ -145,6 +149,7 @@ Cuts-nothing state left = record {
   counted = omega arith;
   pieces = GivesPieces-nothing (prepend_known state.held left);
   ended = omega arith;
+  fewer = omega arith;
 }
 
 -- two steps, one after the other
@@ -155,6 +160,7 @@ Cuts-then a b c la lb lc first second p q = record {
   counted = omega (arith, p.counted, q.counted, length-append p.bytes q.bytes);
   pieces = GivesPieces-then (prepend_known a.held la) (prepend_known b.held lb) (prepend_known c.held lc) first second p.pieces q.pieces;
   ended = omega (arith, p.ended, q.ended, feeds-append p.bytes q.bytes, length-append first second);
+  fewer = omega (arith, p.fewer, q.fewer, length-append p.bytes q.bytes, length-append first second);
 }
 
 -- bytes that come behind an unfinished line, of which the first are kept
@@ -165,6 +171,7 @@ Cuts-read old new la lb more unended held taken consumed = record {
   counted = taken;
   pieces = grown la lb consumed;
   ended = omega (arith, unended, ap feeds held, feeds-append (take 4097 old.held) more);
+  fewer = omega (arith, ap length held, length-append (take 4097 old.held) more, length-take 4097 old.held);
 }
   where
     grown : (la lb : Option (List ℕ)) → Consumes la lb more → GivesPieces (prepend_known old.held la) (prepend_known new.held lb) []

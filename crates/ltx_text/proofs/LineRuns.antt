@@ -3,8 +3,12 @@ use Rattle.std.proofs.Common.{◌≡◌, ℕ, ◌+◌, ◌-◌, ◌≤◌, List,
 use Rattle.std.proofs.lemmas.List.{append-nil, take_at}
 use Rattle.std.proofs.Math.Seq.{take-append-add}
 use Rattle.std.specs.Io.KnownBytes.{IsAtEnd}
-use Rattle.ltx_text.specs.Lines.{LinesState, Cuts, feeds, fresh, pieces_of}
+use Rattle.ltx_text.specs.Lines.{LinesState, Cuts, feeds, fresh, pieces_of, to_go}
 use Rattle.ltx_text.proofs.LineLemmas.{feeds-append, pieces_none}
+
+pub fewer_to_go : (old new : LinesState) (left_old left_new : Option (List ℕ)) (gave : List (Option (List ℕ))) → Cuts old new left_old left_new gave
+    → new.taken ≤ new.limit + 1 → new.limit ≡ old.limit → length gave + to_go new ≤ to_go old
+fewer_to_go old new left_old left_new gave cuts within same = omega (arith, cuts.fewer, cuts.counted, within, same)
 
 pub given_front : (limit : ℕ) (now : LinesState) (bytes : List ℕ) (left : Option (List ℕ)) (gave : List (Option (List ℕ))) → Cuts (fresh limit) now (Some bytes) left gave
     → (rest : List (Option (List ℕ))) × (pieces_of bytes ≡ gave ++ rest)

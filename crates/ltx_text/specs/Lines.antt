@@ -1,5 +1,5 @@
 -- Cutting bytes into lines, and what a reader of lines holds, takes and gives.
-use Rattle.std.specs.Prelude.{◌≡◌, ℕ, ◌+◌, ◌≤◌, ◌<◌, nat_le, ◌==◌, if◌then◌else◌, List, [], ◌∷◌, ◌++◌, map, length, take, slice_index, Option, None, Some, ⊤}
+use Rattle.std.specs.Prelude.{◌≡◌, ℕ, ◌+◌, ◌-◌, ◌≤◌, ◌<◌, nat_le, ◌==◌, if◌then◌else◌, List, [], ◌∷◌, ◌++◌, map, length, take, slice_index, Option, None, Some, ⊤}
 use Rattle.std.specs.Io.KnownBytes.{Consumes, prepend_known}
 
 -- a byte other than a line feed stands before the first line of what follows it
@@ -35,6 +35,10 @@ pub record LinesState : Type 0 where
 abbrev pub fresh : ℕ → LinesState
 fresh limit = record { held = []; taken = 0; limit = limit }
 
+-- how many bytes a reader may still take and give
+abbrev pub to_go : LinesState → ℕ
+to_go reader = reader.limit + 1 - reader.taken + length reader.held
+
 -- the pieces that are to come at first are those given and those to come then, where the bytes to come are known
 abbrev pub GivesPieces : Option (List ℕ) → Option (List ℕ) → List (Option (List ℕ)) → Type 0
 GivesPieces None new given = ⊤
@@ -51,6 +55,8 @@ pub record Cuts (old new : LinesState) (left_old left_new : Option (List ℕ)) (
   pub pieces : GivesPieces (prepend_known old.held left_old) (prepend_known new.held left_new) given
   -- each line feed that it held or took ends a piece given, or is held
   pub ended : feeds old.held + feeds bytes ≤ length given + feeds new.held
+  -- each piece given had a byte at least, so that the bytes to give and to take grow fewer
+  pub fewer : length given + length new.held ≤ length old.held + length bytes
 
 -- the first line feed of the bytes stands at this place
 pub record IsFirstFeed (bytes : List ℕ) (at : ℕ) : Type 0 where

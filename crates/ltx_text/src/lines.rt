@@ -4,7 +4,7 @@
 ghost use Rattle.std.specs.Prelude.{◌≡◌, ◌≢◌, ℕ, List, Option, Some, ◌+◌, ◌-◌, ◌≤◌, ◌<◌, ◌↔◌, [], ◌∷◌, ◌++◌, length, take, drop, slice_index, IfOk, OnOk, OnErr, IfSome, IsErrOf, MatchBool, MatchOption};
 ghost use Rattle.std.specs.Io.KnownBytes.{Consumes, IsAtEnd};
 ghost use Rattle.ltx_outside.specs.Faults.{Rose};
-ghost use Rattle.ltx_text.specs.Lines.{Cuts, IsFirstFeed, LinesState, feeds, fresh, piece_of, pieces_of};
+ghost use Rattle.ltx_text.specs.Lines.{Cuts, IsFirstFeed, LinesState, feeds, fresh, piece_of, pieces_of, to_go};
 ghost use Rattle.ltx_text.specs.Pieces.{OnEnd, OnLine, given};
 
 use crate::block::{Block, MOST_READ};
@@ -209,6 +209,10 @@ pub fn pieces_come_in_order()
     ensures none { (state : LinesState) (left : Option (List ℕ)) → Cuts state state left left [] }
     ensures more { (a b c : LinesState) (left_a left_b left_c : Option (List ℕ)) (first second : List (Option (List ℕ))) →
         Cuts a b left_a left_b first → Cuts b c left_b left_c second → Cuts a c left_a left_c (first ++ second) }
+
+    // A loop over the calls ends: this number falls at each piece, and never rises.
+    ensures fewer { (old new : LinesState) (left_old left_new : Option (List ℕ)) (gave : List (Option (List ℕ))) → Cuts old new left_old left_new gave →
+        new.taken ≤ new.limit + 1 → new.limit ≡ old.limit → length gave + to_go new ≤ to_go old }
 
     // What was given so far is a front of the pieces, and at the end all of them.
     ensures front { (limit : ℕ) (now : LinesState) (bytes : List ℕ) (left : Option (List ℕ)) (gave : List (Option (List ℕ))) →
