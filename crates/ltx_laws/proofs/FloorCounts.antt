@@ -107,7 +107,7 @@ live_advanced agenda moves more snapshot c (o ∷ os) stands silent none =
       by_kind (IsLive d old) n steps h e = after_silent moves more n c h.slotted silent ∙ e
 
 -- the slots of an advance
-abbrev slot_if : ℕ → Kind → ℕ → Option Timed
+abbrev pub slot_if : ℕ → Kind → ℕ → Option Timed
 slot_if epoch IsShort n = None
 slot_if epoch (IsPending d) n = Some (record { epoch = epoch; move = Slot n })
 slot_if epoch (IsLive d snapshot) n = None

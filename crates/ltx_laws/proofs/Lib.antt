@@ -30,3 +30,4 @@ pub mod FloorSteps
 pub mod Floors
 pub mod ExplainedHistories
 pub mod DropsLists
+pub mod DropsHistories
