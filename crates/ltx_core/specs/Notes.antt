@@ -1,5 +1,5 @@
 -- What a core keeps: the latest rows, the serial order, and each open short with its operations and their look-ups.
-use Rattle.std.specs.Prelude.{ℕ, ◌≤◌, Bool, true, false, ◌==◌, List, [], ◌∷◌, ◌++◌, map, Option, Some, None, if◌then◌else◌}
+use Rattle.std.specs.Prelude.{ℕ, ◌+◌, ◌≤◌, Bool, true, false, ◌==◌, List, [], ◌∷◌, ◌++◌, map, Option, Some, None, if◌then◌else◌}
 use Rattle.std.specs.List.{list_any}
 use Rattle.ltx_model.specs.declared.commands.Op.{Op}
 use Rattle.ltx_model.specs.declared.commands.Op.TheVariants.{Get, Scan, Put, Del}
@@ -36,6 +36,17 @@ is_session session a = a.session == session
 
 abbrev pub operations_of : List Noted → List Op
 operations_of notes = map (λ n. n.op) notes
+
+abbrev pub puts_one : Op → ℕ
+puts_one (Get table key) = 0
+puts_one (Scan table low high) = 0
+puts_one (Put table key value) = 1
+puts_one (Del table key) = 0
+
+-- how many of the operations put a row
+abbrev pub puts : List Op → ℕ
+puts [] = 0
+puts (op ∷ ops) = puts_one op + puts ops
 
 -- the last of the operations that writes the key
 abbrev pub last_write : Cell → List Op → Option Op

@@ -6,7 +6,7 @@ ghost use Rattle.ltx_model.specs.Keys.{IsRising, put_in_order};
 ghost use Rattle.ltx_model.specs.StoredRows.{cell_of, row_at, writer_at};
 ghost use Rattle.ltx_model.specs.Rows.{without, rows_after, rows_after_all};
 ghost use Rattle.ltx_core.specs.Places.{IsRowAt, IsGapAt};
-ghost use Rattle.ltx_core.specs.Notes.{operations_of};
+ghost use Rattle.ltx_core.specs.Notes.{operations_of, puts_one, puts};
 
 use crate::short::Noted;
 use ltx_model::bytes::Key;
@@ -80,10 +80,10 @@ fn delete_row(rows: &mut Vec<StoredRow>, table: Table, key: &Key)
 // What an operation of a transaction leaves.
 fn install_one(rows: &mut Vec<StoredRow>, tx: Tx, op: Op)
     requires rising { IsRising cell_of rows.old.items }
-    requires room { vec_len rows.old < vec_capacity rows.old }
+    requires room { vec_len rows.old + puts_one op ≤ vec_capacity rows.old }
     ensures rows { rows.new.items ≡ rows_after tx rows.old.items op }
     ensures rising { IsRising cell_of rows.new.items }
-    ensures grown { vec_len rows.new ≤ vec_len rows.old + 1 }
+    ensures grown { vec_len rows.new ≤ vec_len rows.old + puts_one op }
     ensures capacity { vec_capacity rows.old ≤ vec_capacity rows.new }
 {
     match op {
@@ -101,10 +101,23 @@ fn install_one(rows: &mut Vec<StoredRow>, tx: Tx, op: Op)
     }
 }
 
-/// What the operations of a transaction leave, where there is room for a row of each.
+/// How many rows the operations put.
+pub fn puts(notes: &[Noted]) -> usize
+    ensures { result ≡ puts (operations_of notes.now) }
+{
+    let mut count = 0;
+    for noted in notes {
+        if matches!(noted.op, Op::Put { .. }) {
+            count += 1;
+        }
+    }
+    count
+}
+
+/// What the operations of a transaction leave, where there is room for the rows that they put.
 pub fn install(rows: &mut Vec<StoredRow>, tx: Tx, notes: Vec<Noted>)
     requires rising { IsRising cell_of rows.old.items }
-    requires room { vec_len rows.old + length notes.items ≤ vec_capacity rows.old }
+    requires room { vec_len rows.old + puts (operations_of notes.items) ≤ vec_capacity rows.old }
     ensures rows { rows.new.items ≡ rows_after_all tx rows.old.items (operations_of notes.items) }
     ensures rising { IsRising cell_of rows.new.items }
 {

@@ -17,7 +17,7 @@ ghost use Rattle.ltx_core.specs.Outcomes.{short_of, begin, operate, commit, acce
 ghost use Rattle.ltx_core.specs.Stands.{StandsFor};
 
 use crate::change::{Change, first_change};
-use crate::rows::install;
+use crate::rows::{install, puts};
 use crate::short::{Noted, Short, see};
 use ltx_model::base::Recovered;
 use ltx_model::commands::{Command, Op, Verb};
@@ -161,7 +161,7 @@ impl Core {
             → record { reply = reply; core = self.new } ≡ accepted_at self.old place a) }
         ensures err { OnErr result (self.new ≡ self.old) }
     {
-        self.rows.reserve(self.active[place].notes().len())?;
+        self.rows.reserve(puts(self.active[place].notes()))?;
         self.order.reserve(1)?;
         let short = self.active.remove(place);
         let tx = short.tx();
