@@ -7,3 +7,4 @@ pub mod Views
 pub mod Runs
 pub mod Searches
 pub mod Shorts
+pub mod LastWrites
