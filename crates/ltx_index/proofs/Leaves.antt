@@ -17,7 +17,7 @@ use Rattle.ltx_index.specs.Places.{AreBelow, AreAbove}
 use Rattle.ltx_index.specs.Leaves.{pairs_of, AreLeaves, first_key, IsHome}
 use Rattle.ltx_index.proofs.Places.{below_from_above, above_from_below, reaches_past, is_less}
 use Rattle.ltx_index.proofs.Joined.{filled-with_pair, all_append, all_right, all_implied, value_at-below, with_pair-below, with_value-below, without_key-below, value_at-above, with_pair-above, with_value-above, without_key-above, first_from-short, first_from-reached, AreParted, parted, in_order-with_pair, in_order-without_key}
-use Rattle.ltx_index.proofs.Lookups.{keys-with_value, length-with_value}
+use Rattle.ltx_index.proofs.Lookups.{in_order-with_value, length-with_value}
 
 one_more : (i : ℕ) → suc i ≡ i + 1
 one_more i = omega arith
@@ -262,7 +262,7 @@ module _ {V : Type 0} (leaves : List (List (List ℕ × V))) (are : AreLeaves le
         | inl within ↦ all-set _ leaves i _ are.filled (omega (arith, leaf_filled leaves i are.filled within, length-with_value (get_or leaves i []) key value))
         | inr past ↦ subst (AllByRecursion (λ leaf. 0 < length leaf)) (sym (set_past leaves i _ past)) are.filled
       ];
-      in_order = subst IsInOrder (with_value-home key value leaves i home) (subst (IsStrictlySortedBy key_cmp) (sym (keys-with_value (pairs_of leaves) key value)) are.in_order);
+      in_order = subst IsInOrder (with_value-home key value leaves i home) (in_order-with_value (pairs_of leaves) key value are.in_order);
     }
 
     -- where a pair is put into the key's leaf

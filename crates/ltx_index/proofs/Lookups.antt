@@ -1,6 +1,7 @@
 -- What a look-up finds after an edit, and what the first pair from a bound on is, for whoever keeps something by key.
 use Rattle.std.proofs.Common.{◌≡◌, ℕ, length, Bool, true, false, [], ◌∷◌, List, Some, None, IsSome, if◌then◌else◌, refl, sym, ap, ◌∙◌, subst, inl, inr}
 use Rattle.std.specs.List.{AllByRecursion}
+use Rattle.std.specs.List.Sorted.{IsStrictlySortedBy}
 use Rattle.std.specs.declared.cmp.Ordering.{Ordering}
 use Rattle.std.specs.declared.cmp.Ordering.TheVariants.{Less, Equal, Greater}
 use Rattle.std.specs.Map.{keys_of}
@@ -67,6 +68,10 @@ keys-with_value ((k, x) ∷ rest) key value = elim (cases_Bool (are_same key k))
   | inl same ↦ rw same refl
   | inr differ ↦ rw (differ, keys-with_value rest key value) refl
 ]
+
+-- and keeps their order
+pub in_order-with_value : {V : Type 0} (pairs : List (List ℕ × V)) (key : List ℕ) (value : V) → IsInOrder pairs → IsInOrder (with_value pairs key value)
+in_order-with_value pairs key value in_order = subst (IsStrictlySortedBy key_cmp) (sym (keys-with_value pairs key value)) in_order
 
 pub length-with_value : {V : Type 0} (pairs : List (List ℕ × V)) (key : List ℕ) (value : V) → length (with_value pairs key value) ≡ length pairs
 length-with_value pairs key value = sym (length-keys_of (with_value pairs key value)) ∙ ap length (keys-with_value pairs key value) ∙ length-keys_of pairs

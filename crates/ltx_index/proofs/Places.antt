@@ -19,7 +19,6 @@ use Rattle.std.proofs.lemmas.Map.Keys.{Less-from_sorted}
 use Rattle.std.proofs.lemmas.Map.Lookups.{exact_bytes}
 use Rattle.ltx_model.specs.Keys.{key_cmp}
 use Rattle.ltx_index.specs.Pairs.{IsInOrder, value_at, with_pair, with_value, without_key, first_from, reaches}
-use Rattle.ltx_index.specs.Leaves.{first_key}
 use Rattle.ltx_index.specs.Places.{IsRun, AreAbove, IsFoundAt, IsGapAt, IsStartAt}
 
 -- keys are tied where they are the same
@@ -78,11 +77,6 @@ module _ {V : Type 0} (key : List ℕ) where
   value_at-above (k ∷ ks) [] above = refl
   value_at-above (k ∷ ks) (x ∷ xs) above = rw above.0 (value_at-above ks xs above.1)
 
-  pub with_value-above : (ks : List (List ℕ)) (vs : List V) (w : V) → AreAbove key ks → with_value (zip ks vs) key w ≡ zip ks vs
-  with_value-above [] vs w above = refl
-  with_value-above (k ∷ ks) [] w above = refl
-  with_value-above (k ∷ ks) (x ∷ xs) w above = rw (above.0, with_value-above ks xs w above.1) refl
-
   pub without_key-above : (ks : List (List ℕ)) (vs : List V) → AreAbove key ks → without_key (zip ks vs) key ≡ zip ks vs
   without_key-above [] vs above = refl
   without_key-above (k ∷ ks) [] above = refl
@@ -96,12 +90,6 @@ module _ {V : Type 0} (key : List ℕ) where
 
   pub nothing_in_gap : (ks : List (List ℕ)) (vs : List V) (i : ℕ) → IsGapAt ks key i → IsSome (value_at (zip ks vs) key) → ⊥
   nothing_in_gap ks vs i f stands = false≢true (rw (value_at-gap ks vs i f) at stands)
-
-  pub with_value-gap : (ks : List (List ℕ)) (vs : List V) (i : ℕ) (w : V) → IsGapAt ks key i → with_value (zip ks vs) key w ≡ zip ks vs
-  with_value-gap ks vs zero w f = with_value-above ks vs w f.above
-  with_value-gap [] vs (suc i) w f = refl
-  with_value-gap (k ∷ ks) [] (suc i) w f = refl
-  with_value-gap (k ∷ ks) (x ∷ xs) (suc i) w f = rw (f.below.0, with_value-gap ks xs i w (gap_tail key k ks i f)) refl
 
   pub without_key-gap : (ks : List (List ℕ)) (vs : List V) (i : ℕ) → IsGapAt ks key i → without_key (zip ks vs) key ≡ zip ks vs
   without_key-gap ks vs zero f = without_key-above ks vs f.above
@@ -365,9 +353,3 @@ zip-halves zero ks vs = refl
 zip-halves (suc n) [] vs = refl
 zip-halves (suc n) (k ∷ ks) [] = sym (zip-nothing (drop n ks))
 zip-halves (suc n) (k ∷ ks) (v ∷ vs) = ap (λ pairs. (k, v) ∷ pairs) (zip-halves n ks vs)
-
--- the first key of a run's pairs
-pub first_key-zip : {V : Type 0} (ks : List (List ℕ)) (vs : List V) → length ks ≡ length vs → first_key (zip ks vs) ≡ get_or ks 0 []
-first_key-zip [] vs same = refl
-first_key-zip (k ∷ ks) [] same = absurd (omega (arith, same))
-first_key-zip (k ∷ ks) (v ∷ vs) same = refl
