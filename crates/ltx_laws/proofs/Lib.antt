@@ -6,6 +6,8 @@ pub mod GuardedStates
 pub mod Pairs
 pub mod Places
 pub mod PlacesByCommit
+pub mod Preserved
+pub mod Priorities
 pub mod Snapshots
 pub mod Spared
 pub mod Standing
@@ -16,6 +18,7 @@ pub mod StructureSlots
 pub mod Structures
 pub mod Told
 pub mod Unread
+pub mod Least
 pub mod LiveStates
 pub mod Transitions
 pub mod ReadsWitnesses

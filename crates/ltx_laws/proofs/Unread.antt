@@ -22,7 +22,7 @@ serial_member ms t here = let found = given_item committed_of ms t here in by_me
 
 -- the guards of a live batch, whose number no committed member has
 module _ (moves : List Timed) (n : ℕ) (d : Declaration) where
-  abbrev IsNotOwn : Member → Type 0
+  abbrev pub IsNotOwn : Member → Type 0
   IsNotOwn (LiveSlot k) = Unit {0}
   IsNotOwn (Committed t) = t.number ≢ n
 

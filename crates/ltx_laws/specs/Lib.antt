@@ -4,3 +4,4 @@ pub mod Guards
 pub mod Told
 pub mod Commits
 pub mod Drops
+pub mod Priority

@@ -3,5 +3,7 @@
 
 pub mod commits;
 pub mod floor;
+pub mod preserve;
+pub mod priority;
 pub mod serial_order;
 pub mod states;
