@@ -72,7 +72,7 @@ slots_lawful epoch past (o ∷ os) rising fresh lawful = by_kind o.kind fresh.0 
       all_both (λ u. IsFreshAs past u.kind u.number) (λ u. o.number < u.number) (λ u. IsFreshAs (past ++ new ∷ []) u.kind u.number) (λ u f less. fresh_more past epoch o.number u.kind u.number less f) os fresh.1 rising.0 in
       subst (AreLawful []) (append_assoc past (new ∷ []) (slots_of epoch os)) (later (past ++ new ∷ []) more (lawful_push past new lawful h))
 
-slots_epoch : (epoch : ℕ) (os : List Active) → AllByRecursion (λ m. m.epoch ≡ epoch) (slots_of epoch os)
+pub slots_epoch : (epoch : ℕ) (os : List Active) → AllByRecursion (λ m. m.epoch ≡ epoch) (slots_of epoch os)
 slots_epoch epoch [] = tt
 slots_epoch epoch (o ∷ os) = by_kind o.kind (slots_epoch epoch os) where
   by_kind : (k : Kind) → AllByRecursion (λ m. m.epoch ≡ epoch) (slots_of epoch os) → AllByRecursion (λ m. m.epoch ≡ epoch) (cons_option (slot_if epoch k o.number) (slots_of epoch os))
@@ -168,11 +168,14 @@ module _ (base : Base) (s : State) (inv : Structure base s) (t : AreTimely s) wh
     flushes = λ epoch which. durable_timely epoch;
   }
 
-record IsTimelyState (base : Base) (s : State) : Type 0 where
-  structure : Structure base s
-  timely : AreTimely s
+pub record IsTimelyState (base : Base) (s : State) : Type 0 where
+  pub structure : Structure base s
+  pub timely : AreTimely s
 
-timely_state_cases : (base : Base) (s : State) → IsTimelyState base s → Cases s (λ line reply after. IsTimelyState base after)
+pub first_timely : (base : Base) → IsTimelyState base (first_state base)
+first_timely base = record { structure = first_structure base; timely = record { lawful = tt; rising = tt; bound = tt } }
+
+pub timely_state_cases : (base : Base) (s : State) → IsTimelyState base s → Cases s (λ line reply after. IsTimelyState base after)
 timely_state_cases base s h =
     let g = structure_cases base s h.structure in
     let r = timely_cases base s h.structure h.timely in
@@ -192,7 +195,7 @@ timely_state_cases base s h =
 
 pub timely_of : (built : State → Line → Bool) (base : Base) (history : List Entry) → IsLegalWith built base history → AreTimely (state base history)
 timely_of built base history legal =
-    let h : IsTimelyState base (state base history) = along built (IsTimelyState base) (timely_state_cases base) (first_state base) history (record { structure = first_structure base; timely = record { lawful = tt; rising = tt; bound = tt } }) legal in
+    let h : IsTimelyState base (state base history) = along built (IsTimelyState base) (timely_state_cases base) (first_state base) history (first_timely base) legal in
     h.timely
 
 -- the moves of epochs up to d come first
@@ -214,3 +217,9 @@ logged_through built base history sound legal d =
     let t = timely_of built base history legal in
     let first = through_first d (state base history).moves t.rising in
     logged_serial (filter (λ m. nat_le m.epoch d) (state base history).moves) (lawful_front [] (filter (λ m. nat_le m.epoch d) (state base history).moves) first.rest (subst (AreLawful []) first.parts t.lawful))
+
+-- The moves without the drops give the order.
+pub logged_now : (built : State → Line → Bool) (base : Base) (history : List Entry) → IsSound base → IsLegalWith built base history → serial (logged_agenda (state base history).moves) ≡ serial (state base history).agenda
+logged_now built base history sound legal =
+    let h : IsTimelyState base (state base history) = along built (IsTimelyState base) (timely_state_cases base) (first_state base) history (first_timely base) legal in
+    logged_serial (state base history).moves h.timely.lawful ∙ ap serial (sym h.structure.moves)

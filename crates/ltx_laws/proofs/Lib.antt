@@ -34,3 +34,4 @@ pub mod Floors
 pub mod ExplainedHistories
 pub mod DropsLists
 pub mod DropsHistories
+pub mod DropsFrames

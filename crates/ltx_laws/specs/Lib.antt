@@ -5,3 +5,4 @@ pub mod Told
 pub mod Commits
 pub mod Drops
 pub mod Priority
+pub mod Logs

@@ -5,5 +5,6 @@ pub mod commits;
 pub mod floor;
 pub mod preserve;
 pub mod priority;
+pub mod recovery;
 pub mod serial_order;
 pub mod states;

@@ -1,0 +1,50 @@
+//! What a log gives back: the moves without the drops, and the frames of the flushes.
+
+ghost use Rattle.std.specs.Prelude.{◌≡◌, ℕ, ◌<◌, Bool, List, ◌++◌};
+ghost use Rattle.ltx_model.specs.declared.commands.Line.{Line};
+ghost use Rattle.ltx_model.specs.declared.replies.Entry.{Entry};
+ghost use Rattle.ltx_model.specs.Agenda.{serial};
+ghost use Rattle.ltx_model.specs.States.{Base, IsSound, State, serial_through, rows_through};
+ghost use Rattle.ltx_model.specs.Histories.{state};
+ghost use Rattle.ltx_model.specs.Answers.{IsLegalWith};
+ghost use Rattle.ltx_lemmas.specs.Writes.{rows_after_last_writes};
+ghost use Rattle.ltx_laws.specs.Drops.{logged_agenda};
+ghost use Rattle.ltx_laws.specs.Logs.{frames_of, events_in, events_of, moves_through};
+
+/// The moves of slots and commits, without those of batches that left, give the serial order when they are played on an empty
+/// list; and so do those of the epochs up to any one give the order through it.
+pub fn moves_without_drops_give_the_order()
+    ensures now { (built : State → Line → Bool) (base : Base) (history : List Entry) → IsSound base
+        → IsLegalWith built base history
+        → serial (logged_agenda (state base history).moves) ≡ serial (state base history).agenda }
+    ensures through { (built : State → Line → Bool) (base : Base) (history : List Entry) → IsSound base
+        → IsLegalWith built base history
+        → (d : ℕ) → serial (logged_agenda (moves_through d (state base history).moves))
+        ≡ serial_through (state base history) d }
+{}
+
+/// The frames that the flushes of a history write, one after another, hold the events of its moves of durable epochs and no
+/// others, in time.
+pub fn frames_hold_the_durable_moves()
+    ensures { (built : State → Line → Bool) (base : Base) (history : List Entry) → IsSound base
+        → IsLegalWith built base history
+        → events_in (frames_of base history)
+        ≡ events_of (moves_through (state base history).durable (state base history).moves) }
+{}
+
+/// The rows through an epoch are what the last write of each key gives, transaction by transaction in the order through it, over
+/// the base's rows; through the base's durable epoch they are the base's rows. A closed epoch keeps its order in each longer history.
+pub fn rows_through_an_epoch()
+    ensures writes { (built : State → Line → Bool) (base : Base) (history : List Entry) → IsSound base
+        → IsLegalWith built base history
+        → (d : ℕ) → rows_after_last_writes base.rows (serial_through (state base history) d)
+        ≡ rows_through (state base history) d }
+    ensures first { (built : State → Line → Bool) (base : Base) (history : List Entry) → IsSound base
+        → IsLegalWith built base history
+        → rows_through (state base history) base.durable ≡ base.rows }
+    ensures closed { (built : State → Line → Bool) (base : Base) (history more : List Entry) → IsSound base
+        → IsLegalWith built base (history ++ more)
+        → (d : ℕ) → d < (state base history).epoch
+        → serial_through (state base (history ++ more)) d
+        ≡ serial_through (state base history) d }
+{}
