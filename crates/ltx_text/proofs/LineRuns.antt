@@ -1,9 +1,9 @@
 -- All that a reader gave since it was new.
-use Rattle.std.proofs.Common.{◌≡◌, ℕ, ◌+◌, ◌-◌, ◌≤◌, List, [], ◌++◌, length, take, Option, Some, None, IfSome, refl, sym, ap, ◌∙◌, arith}
+use Rattle.std.proofs.Common.{◌≡◌, ℕ, ◌+◌, ◌-◌, ◌≤◌, List, [], ◌++◌, length, take, Option, Some, None, refl, sym, ap, ◌∙◌, arith}
 use Rattle.std.proofs.lemmas.List.{append-nil, take_at}
 use Rattle.std.proofs.Math.Seq.{take-append-add}
 use Rattle.std.specs.Io.KnownBytes.{IsAtEnd}
-use Rattle.ltx_text.specs.Lines.{LinesState, Cuts, feeds, fresh, pieces_of, to_go}
+use Rattle.ltx_text.specs.Lines.{LinesState, Cuts, NoFeedAhead, feeds, fresh, pieces_of, to_go}
 use Rattle.ltx_text.proofs.LineLemmas.{feeds-append, pieces_none}
 
 pub fewer_to_go : (old new : LinesState) (left_old left_new : Option (List ℕ)) (gave : List (Option (List ℕ))) → Cuts old new left_old left_new gave
@@ -30,10 +30,10 @@ given_taken limit now bytes (Some more) gave cuts none =
     omega (arith, ap feeds front, cuts.ended, none)
 
 pub given_below : (limit : ℕ) (now : LinesState) (bytes : List ℕ) (left : Option (List ℕ)) (gave : List (Option (List ℕ))) → Cuts (fresh limit) now (Some bytes) left gave
-    → now.taken ≤ limit → feeds now.held ≡ 0 → IfSome left (λ more. feeds (take (limit - now.taken) more) ≡ 0) → feeds (take limit bytes) ≤ length gave
-given_below limit now bytes None gave cuts within none ahead = absurd cuts.pieces
-given_below limit now bytes (Some more) gave cuts within none ahead =
-    let sum : limit ≡ length cuts.bytes + (limit - now.taken) = omega (arith, within, cuts.counted) in
-    let front : take limit bytes ≡ cuts.bytes ++ take (limit - now.taken) more =
-    ap (take limit) cuts.consumed ∙ ap (λ (n : ℕ). take n (cuts.bytes ++ more)) sum ∙ take-append-add cuts.bytes more (limit - now.taken) in
-    omega (arith, ap feeds front, feeds-append cuts.bytes (take (limit - now.taken) more), cuts.ended, none, ahead)
+    → now.taken ≤ limit → now.limit ≡ limit → feeds now.held ≡ 0 → NoFeedAhead now left → feeds (take limit bytes) ≤ length gave
+given_below limit now bytes None gave cuts within same none ahead = absurd cuts.pieces
+given_below limit now bytes (Some more) gave cuts within same none ahead =
+    let sum : limit ≡ length cuts.bytes + (now.limit - now.taken) = omega (arith, within, same, cuts.counted) in
+    let front : take limit bytes ≡ cuts.bytes ++ take (now.limit - now.taken) more =
+    ap (take limit) cuts.consumed ∙ ap (λ (n : ℕ). take n (cuts.bytes ++ more)) sum ∙ take-append-add cuts.bytes more (now.limit - now.taken) in
+    omega (arith, ap feeds front, feeds-append cuts.bytes (take (now.limit - now.taken) more), cuts.ended, none, ahead)

@@ -1,5 +1,5 @@
 -- Cutting bytes into lines, and what a reader of lines holds, takes and gives.
-use Rattle.std.specs.Prelude.{◌≡◌, ℕ, ◌+◌, ◌-◌, ◌≤◌, ◌<◌, nat_le, ◌==◌, if◌then◌else◌, List, [], ◌∷◌, ◌++◌, map, length, take, slice_index, Option, None, Some, ⊤}
+use Rattle.std.specs.Prelude.{◌≡◌, ℕ, ◌+◌, ◌-◌, ◌≤◌, ◌<◌, nat_le, ◌==◌, if◌then◌else◌, List, [], ◌∷◌, ◌++◌, map, length, take, slice_index, Option, None, Some, IfSome, ⊤}
 use Rattle.std.specs.Io.KnownBytes.{Consumes, prepend_known}
 
 -- a byte other than a line feed stands before the first line of what follows it
@@ -7,7 +7,8 @@ abbrev pub before_lines : ℕ → List (List ℕ) → List (List ℕ)
 before_lines b [] = (b ∷ []) ∷ []
 before_lines b (line ∷ lines) = (b ∷ line) ∷ lines
 
--- the lines of bytes: each line feed (10) ends one and is no part of it, and the bytes after the last are one where there are any
+-- the lines of bytes: each line feed (10) ends one and is no part of it,
+-- and the bytes after the last are one where there are any
 unfoldable pub lines_of : List ℕ → List (List ℕ)
 lines_of [] = []
 lines_of (b ∷ bytes) = if b == 10 then [] ∷ lines_of bytes else before_lines b (lines_of bytes)
@@ -39,7 +40,7 @@ fresh limit = record { held = []; taken = 0; limit = limit }
 abbrev pub to_go : LinesState → ℕ
 to_go reader = reader.limit + 1 - reader.taken + length reader.held
 
--- the pieces that are to come at first are those given and those to come then, where the bytes to come are known
+-- where the bytes to come are known: the pieces that are to come at first are those given and those to come then
 abbrev pub GivesPieces : Option (List ℕ) → Option (List ℕ) → List (Option (List ℕ)) → Type 0
 GivesPieces None new given = ⊤
 GivesPieces (Some old) None given = ⊥
@@ -57,6 +58,10 @@ pub record Cuts (old new : LinesState) (left_old left_new : Option (List ℕ)) (
   pub ended : feeds old.held + feeds bytes ≤ length given + feeds new.held
   -- each piece given had a byte at least, so that the bytes to give and to take grow fewer
   pub fewer : length given + length new.held ≤ length old.held + length bytes
+
+-- no line feed stands among the bytes that the source has left, as far as the reader may take them
+abbrev pub NoFeedAhead : LinesState → Option (List ℕ) → Type 0
+NoFeedAhead reader left = IfSome left (λ bytes. feeds (take (reader.limit - reader.taken) bytes) ≡ 0)
 
 -- the first line feed of the bytes stands at this place
 pub record IsFirstFeed (bytes : List ℕ) (at : ℕ) : Type 0 where

@@ -96,11 +96,13 @@ impl Block {
     ) -> Result<usize, Failed>
         requires some { 0 < most }
         requires room { most ≤ room self.old }
-        ensures taken { IfOk result (λ n. (more : List ℕ) × (length more ≡ n) × (held self.new ≡ held self.old ++ more)
+        ensures taken { IfOk result (λ n. (more : List ℕ) × (length more ≡ n)
+            × (held self.new ≡ held self.old ++ more)
             × Consumes (S.left source.old) (S.left source.new) more) }
         ensures most { IfOk result (λ n. n ≤ most) }
         ensures end { IfOk result (λ n. n ≡ 0 → IsAtEnd (S.left source.new)) }
-        ensures kept { OnErr result ((held self.new ≡ held self.old) × (S.left source.new ≡ S.left source.old)) }
+        ensures kept { OnErr result ((held self.new ≡ held self.old)
+            × (S.left source.new ≡ S.left source.old)) }
         ensures counted { S.faults source.old ≤ S.faults source.new }
         ensures cause { OnErr result (Rose (S.faults source.old) (S.faults source.new)) }
     {

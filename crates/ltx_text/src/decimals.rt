@@ -44,7 +44,8 @@ pub fn decimal(word: &[u8]) -> Option<u64>
 
 /// The number that the digits write. None where one is no digit, or the number is no u64.
 fn number_of(digits: &[u8]) -> Option<u64>
-    ensures found { IfSome result (λ n. AllDigits 10 digits.now × (digits_value 10 digits.now ≡ n) × (n < 2 ^ 64)) }
+    ensures found { IfSome result (λ n. AllDigits 10 digits.now
+        × (digits_value 10 digits.now ≡ n) × (n < 2 ^ 64)) }
     ensures none { IfNone result (AllDigits 10 digits.now → 2 ^ 64 ≤ digits_value 10 digits.now) }
 {
     let mut n: u64 = 0;

@@ -1,10 +1,10 @@
 //! The lines of a source, one at a time, for whoever runs a script.
 //! The bytes are taken in blocks, a read is made only where no whole line is held, and the held bytes
 //! outlive a fault.
-ghost use Rattle.std.specs.Prelude.{◌≡◌, ◌≢◌, ℕ, List, Option, Some, ◌+◌, ◌-◌, ◌≤◌, ◌<◌, ◌↔◌, [], ◌∷◌, ◌++◌, length, take, drop, slice_index, IfOk, OnOk, OnErr, IfSome, IsErrOf, MatchBool, MatchOption};
+ghost use Rattle.std.specs.Prelude.{◌≡◌, ◌≢◌, ℕ, List, Option, Some, ◌+◌, ◌-◌, ◌≤◌, ◌<◌, ◌↔◌, [], ◌∷◌, ◌++◌, length, take, drop, slice_index, IfOk, OnOk, OnErr, IsErrOf, MatchBool, MatchOption};
 ghost use Rattle.std.specs.Io.KnownBytes.{Consumes, IsAtEnd};
 ghost use Rattle.ltx_outside.specs.Faults.{Rose};
-ghost use Rattle.ltx_text.specs.Lines.{Cuts, IsFirstFeed, LinesState, feeds, fresh, piece_of, pieces_of, to_go};
+ghost use Rattle.ltx_text.specs.Lines.{Cuts, IsFirstFeed, LinesState, NoFeedAhead, feeds, fresh, piece_of, pieces_of, to_go};
 ghost use Rattle.ltx_text.specs.Pieces.{OnEnd, OnLine, given};
 
 use crate::block::{Block, MOST_READ};
@@ -63,21 +63,23 @@ impl Lines {
         ensures cuts { Cuts self.old self.new (S.left source.old) (S.left source.new) (given result) }
         ensures limit { self.new.limit ≡ self.old.limit }
 
-        // A read is made only where no whole line is held, and goes past the limit only where the limit was taken before it.
-        ensures quiet { 0 < feeds self.old.held → (source.new ≡ source.old) × (self.new.taken ≡ self.old.taken) }
+        // A read is made only where no whole line is held, and past the limit only where the limit was taken.
+        ensures quiet { 0 < feeds self.old.held →
+            (source.new ≡ source.old) × (self.new.taken ≡ self.old.taken) }
         ensures least { self.new.taken ≤ self.new.limit + 1 }
 
         // Where each answer comes.
         ensures line { OnLine result (λ line. (length line ≤ 4096) × (feeds line ≡ 0)) }
         ensures end { OnEnd result ((self.new.held ≡ []) × IsAtEnd (S.left source.new)) }
         ensures too_much { IsErrOf result TextFault.TooMuch ↔ (self.new.limit < self.new.taken) }
-        ensures read_fault { IsErrOf result TextFault.ReadFault → Rose (S.faults source.old) (S.faults source.new) }
+        ensures read_fault { IsErrOf result TextFault.ReadFault →
+            Rose (S.faults source.old) (S.faults source.new) }
         ensures counted { S.faults source.old ≤ S.faults source.new }
 
-        // At a fault of the source, and where the limit was passed in this call, no whole line is left.
+        // At a fault of the source, and where the limit was passed in this call, no whole line was left.
         ensures no_line { IsErrOf result TextFault.ReadFault → feeds self.new.held ≡ 0 }
-        ensures no_line_below { IsErrOf result TextFault.TooMuch → self.old.taken ≤ self.old.limit → (feeds self.old.held ≡ 0)
-            × IfSome (S.left source.old) (λ left. feeds (take (self.old.limit - self.old.taken) left) ≡ 0) }
+        ensures no_line_below { IsErrOf result TextFault.TooMuch → self.old.taken ≤ self.old.limit →
+            (feeds self.old.held ≡ 0) × NoFeedAhead self.old (S.left source.old) }
     {
         if self.past {
             return Err(TextFault::TooMuch);
@@ -98,9 +100,9 @@ impl Lines {
         ensures line { OnLine result (λ line. (length line ≤ 4096) × (feeds line ≡ 0)) }
         ensures end { OnEnd result ((self.new.held ≡ []) × IsAtEnd (S.left source.new)) }
         ensures too_much { IsErrOf result TextFault.TooMuch ↔ (self.new.limit < self.new.taken) }
-        ensures read_fault { IsErrOf result TextFault.ReadFault → (feeds self.new.held ≡ 0) × Rose (S.faults source.old) (S.faults source.new) }
-        ensures no_line_below { IsErrOf result TextFault.TooMuch →
-            IfSome (S.left source.old) (λ left. feeds (take (self.old.limit - self.old.taken) left) ≡ 0) }
+        ensures read_fault { IsErrOf result TextFault.ReadFault →
+            (feeds self.new.held ≡ 0) × Rose (S.faults source.old) (S.faults source.new) }
+        ensures no_line_below { IsErrOf result TextFault.TooMuch → NoFeedAhead self.old (S.left source.old) }
         ensures counted { S.faults source.old ≤ S.faults source.new }
     {
         match self.fill(source)? {
@@ -115,11 +117,13 @@ impl Lines {
         requires within { self.old.taken ≤ self.old.limit }
         ensures cuts { Cuts self.old self.new (S.left source.old) (S.left source.new) [] }
         ensures limit { self.new.limit ≡ self.old.limit }
-        ensures found { IfOk result (λ found. MatchOption found (IsAtEnd (S.left source.new) × (feeds self.new.held ≡ 0)) (IsFirstFeed self.new.held)) }
+        ensures found { IfOk result (λ found. MatchOption found
+            (IsAtEnd (S.left source.new) × (feeds self.new.held ≡ 0)) (IsFirstFeed self.new.held)) }
         ensures within { OnOk result (self.new.taken ≤ self.new.limit) }
-        ensures read_fault { IsErrOf result TextFault.ReadFault → (feeds self.new.held ≡ 0) × (self.new.taken ≤ self.new.limit) × Rose (S.faults source.old) (S.faults source.new) }
+        ensures read_fault { IsErrOf result TextFault.ReadFault → (feeds self.new.held ≡ 0)
+            × (self.new.taken ≤ self.new.limit) × Rose (S.faults source.old) (S.faults source.new) }
         ensures too_much { IsErrOf result TextFault.TooMuch → (self.new.taken ≡ self.new.limit + 1)
-            × IfSome (S.left source.old) (λ left. feeds (take (self.old.limit - self.old.taken) left) ≡ 0) }
+            × NoFeedAhead self.old (S.left source.old) }
         ensures memory { IsErrOf result TextFault.NoMemory → ⊥ }
         ensures counted { S.faults source.old ≤ S.faults source.new }
     {
@@ -139,10 +143,13 @@ impl Lines {
         requires within { self.old.taken ≤ self.old.limit }
         ensures cuts { Cuts self.old self.new (S.left source.old) (S.left source.new) [] }
         ensures limit { self.new.limit ≡ self.old.limit }
-        ensures more { IfOk result (λ more. MatchBool more (self.old.taken < self.new.taken) (IsAtEnd (S.left source.new) × (feeds self.new.held ≡ 0))) }
+        ensures more { IfOk result (λ more. MatchBool more
+            (self.old.taken < self.new.taken) (IsAtEnd (S.left source.new) × (feeds self.new.held ≡ 0))) }
         ensures within { OnOk result (self.new.taken ≤ self.new.limit) }
-        ensures read_fault { IsErrOf result TextFault.ReadFault → (feeds self.new.held ≡ 0) × (self.new.taken ≤ self.new.limit) × Rose (S.faults source.old) (S.faults source.new) }
-        ensures too_much { IsErrOf result TextFault.TooMuch → (self.old.taken ≡ self.old.limit) × (self.new.taken ≡ self.new.limit + 1) }
+        ensures read_fault { IsErrOf result TextFault.ReadFault → (feeds self.new.held ≡ 0)
+            × (self.new.taken ≤ self.new.limit) × Rose (S.faults source.old) (S.faults source.new) }
+        ensures too_much { IsErrOf result TextFault.TooMuch →
+            (self.old.taken ≡ self.old.limit) × (self.new.taken ≡ self.new.limit + 1) }
         ensures memory { IsErrOf result TextFault.NoMemory → ⊥ }
         ensures counted { S.faults source.old ≤ S.faults source.new }
     {
@@ -207,25 +214,33 @@ impl Lines {
 pub fn pieces_come_in_order()
     // Several calls give what one call gives that takes and gives all of theirs.
     ensures none { (state : LinesState) (left : Option (List ℕ)) → Cuts state state left left [] }
-    ensures more { (a b c : LinesState) (left_a left_b left_c : Option (List ℕ)) (first second : List (Option (List ℕ))) →
-        Cuts a b left_a left_b first → Cuts b c left_b left_c second → Cuts a c left_a left_c (first ++ second) }
+    ensures more { (a b c : LinesState) (left_a left_b left_c : Option (List ℕ))
+        (first second : List (Option (List ℕ))) →
+        Cuts a b left_a left_b first → Cuts b c left_b left_c second →
+        Cuts a c left_a left_c (first ++ second) }
 
     // A loop over the calls ends: this number falls at each piece, and never rises.
-    ensures fewer { (old new : LinesState) (left_old left_new : Option (List ℕ)) (gave : List (Option (List ℕ))) → Cuts old new left_old left_new gave →
-        new.taken ≤ new.limit + 1 → new.limit ≡ old.limit → length gave + to_go new ≤ to_go old }
+    ensures fewer { (old new : LinesState) (left_old left_new : Option (List ℕ)) (gave : List (Option (List ℕ))) →
+        Cuts old new left_old left_new gave → new.taken ≤ new.limit + 1 → new.limit ≡ old.limit →
+        length gave + to_go new ≤ to_go old }
 
     // What was given so far is a front of the pieces, and at the end all of them.
-    ensures front { (limit : ℕ) (now : LinesState) (bytes : List ℕ) (left : Option (List ℕ)) (gave : List (Option (List ℕ))) →
-        Cuts (fresh limit) now (Some bytes) left gave → (rest : List (Option (List ℕ))) × (pieces_of bytes ≡ gave ++ rest) }
-    ensures all { (limit : ℕ) (now : LinesState) (bytes : List ℕ) (left : Option (List ℕ)) (gave : List (Option (List ℕ))) →
-        Cuts (fresh limit) now (Some bytes) left gave → now.held ≡ [] → IsAtEnd left → gave ≡ pieces_of bytes }
+    ensures front { (limit : ℕ) (now : LinesState) (bytes : List ℕ) (left : Option (List ℕ))
+        (gave : List (Option (List ℕ))) → Cuts (fresh limit) now (Some bytes) left gave →
+        (rest : List (Option (List ℕ))) × (pieces_of bytes ≡ gave ++ rest) }
+    ensures all { (limit : ℕ) (now : LinesState) (bytes : List ℕ) (left : Option (List ℕ))
+        (gave : List (Option (List ℕ))) → Cuts (fresh limit) now (Some bytes) left gave →
+        now.held ≡ [] → IsAtEnd left → gave ≡ pieces_of bytes }
 
-    // Where no line feed is held, each line whose line feed was taken was given; and where none follows up to the limit, each whose line feed stands below it.
-    ensures taken { (limit : ℕ) (now : LinesState) (bytes : List ℕ) (left : Option (List ℕ)) (gave : List (Option (List ℕ))) →
-        Cuts (fresh limit) now (Some bytes) left gave → feeds now.held ≡ 0 → feeds (take now.taken bytes) ≤ length gave }
-    ensures below { (limit : ℕ) (now : LinesState) (bytes : List ℕ) (left : Option (List ℕ)) (gave : List (Option (List ℕ))) →
-        Cuts (fresh limit) now (Some bytes) left gave → now.taken ≤ limit → feeds now.held ≡ 0 →
-        IfSome left (λ more. feeds (take (limit - now.taken) more) ≡ 0) → feeds (take limit bytes) ≤ length gave }
+    // Each line whose line feed was taken was given, where no line feed is held; and each whose line feed
+    // stands below the limit, where none is ahead either.
+    ensures taken { (limit : ℕ) (now : LinesState) (bytes : List ℕ) (left : Option (List ℕ))
+        (gave : List (Option (List ℕ))) → Cuts (fresh limit) now (Some bytes) left gave →
+        feeds now.held ≡ 0 → feeds (take now.taken bytes) ≤ length gave }
+    ensures below { (limit : ℕ) (now : LinesState) (bytes : List ℕ) (left : Option (List ℕ))
+        (gave : List (Option (List ℕ))) → Cuts (fresh limit) now (Some bytes) left gave →
+        now.taken ≤ limit → now.limit ≡ limit → feeds now.held ≡ 0 → NoFeedAhead now left →
+        feeds (take limit bytes) ≤ length gave }
 {}
 
 /// What is given of a line.

@@ -89,7 +89,8 @@ fn hex_digit(n: u8) -> u8
 /// The byte string whose word `word` is. None exactly where no byte string has this word.
 pub fn decode_word(alloc: Global, word: &[u8]) -> Result<Option<Vec<u8>>, NoMemory>
     ensures found { IfOk result (λ found. IfSome found (λ bytes. word.now ≡ word_of bytes.items)) }
-    ensures none { IfOk result (λ found. IfNone found ((bytes : List ℕ) → AreBytes bytes → word.now ≢ word_of bytes)) }
+    ensures none { IfOk result (λ found. IfNone found ((bytes : List ℕ) → AreBytes bytes →
+        word.now ≢ word_of bytes)) }
     // What was printed is read again.
     ensures again { (bytes : List ℕ) → AreBytes bytes → word.now ≡ word_of bytes →
         IfOk result (λ found. IsSomeAnd found (λ read. read.items ≡ bytes)) }
@@ -106,7 +107,8 @@ pub fn decode_word(alloc: Global, word: &[u8]) -> Result<Option<Vec<u8>>, NoMemo
 /// The bytes whose spellings `text` is, one after the other. None exactly where it is no bytes' spellings.
 fn read_spellings(alloc: Global, text: &[u8]) -> Result<Option<Vec<u8>>, NoMemory>
     ensures found { IfOk result (λ found. IfSome found (λ bytes. text.now ≡ spellings bytes.items)) }
-    ensures none { IfOk result (λ found. IfNone found ((bytes : List ℕ) → AreBytes bytes → text.now ≢ spellings bytes)) }
+    ensures none { IfOk result (λ found. IfNone found ((bytes : List ℕ) → AreBytes bytes →
+        text.now ≢ spellings bytes)) }
 {
     let (front, mut rest) = text.split_at(plain_front(text));
     let mut bytes = Vec::from_slice(alloc, front)?;
@@ -123,7 +125,8 @@ fn read_spellings(alloc: Global, text: &[u8]) -> Result<Option<Vec<u8>>, NoMemor
 /// The byte whose spelling begins the text, and what follows it. None where the text begins with no spelling.
 fn next_byte(text: &[u8]) -> Option<(u8, &[u8])>
     ensures found { IfSome result (λ next. text.now ≡ byte_spelling next.0 ++ next.1.now) }
-    ensures none { IfNone result ((b : ℕ) (rest : List ℕ) → b < 256 → text.now ≢ byte_spelling b ++ rest) }
+    ensures none { IfNone result ((b : ℕ) (rest : List ℕ) → b < 256 →
+        text.now ≢ byte_spelling b ++ rest) }
 {
     let (first, after) = text.split_first()?;
     if is_plain(*first) {
@@ -139,8 +142,10 @@ fn next_byte(text: &[u8]) -> Option<(u8, &[u8])>
 
 /// The byte that is written `%` and these two digits. None where no byte is written so.
 fn escaped_byte(high: u8, low: u8) -> Option<u8>
-    ensures found { IfSome result (λ b. IsFalse (is_plain b) × (hex_digit (b / 16) ≡ high) × (hex_digit (b % 16) ≡ low)) }
-    ensures none { IfNone result ((b : ℕ) → b < 256 → IsFalse (is_plain b) → hex_digit (b / 16) ≡ high → hex_digit (b % 16) ≢ low) }
+    ensures found { IfSome result (λ b. IsFalse (is_plain b)
+        × (hex_digit (b / 16) ≡ high) × (hex_digit (b % 16) ≡ low)) }
+    ensures none { IfNone result ((b : ℕ) → b < 256 → IsFalse (is_plain b) →
+        hex_digit (b / 16) ≡ high → hex_digit (b % 16) ≢ low) }
 {
     let byte = digit_value(high)? * 16 + digit_value(low)?;
     if is_plain(byte) { None } else { Some(byte) }
