@@ -35,3 +35,4 @@ pub mod ExplainedHistories
 pub mod DropsLists
 pub mod DropsHistories
 pub mod DropsFrames
+pub mod VersionChains

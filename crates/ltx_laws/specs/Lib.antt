@@ -6,3 +6,4 @@ pub mod Commits
 pub mod Drops
 pub mod Priority
 pub mod Logs
+pub mod Versions
