@@ -71,7 +71,7 @@ pub safe_in_order : (built : State → Line → Bool) (base : Base) (history mor
 safe_in_order built base history more sound legal = prefix_serial (before_floor (state base history)) (state base (history ++ more)).agenda (agenda_over built base history more sound legal)
 
 -- a live batch is an open one
-open_live : (k : Kind) (o : Active) (b : LiveBatch) → as_live k (transaction_of o) ≡ Some b → (k ≡ IsLive b.declared b.snapshot) × (live_of o b.declared b.snapshot ≡ b)
+pub open_live : (k : Kind) (o : Active) (b : LiveBatch) → as_live k (transaction_of o) ≡ Some b → (k ≡ IsLive b.declared b.snapshot) × (live_of o b.declared b.snapshot ≡ b)
 open_live IsShort o b e = absurd (none_some e)
 open_live (IsPending d) o b e = absurd (none_some e)
 open_live (IsLive d snapshot) o b e =

@@ -36,3 +36,4 @@ pub mod DropsLists
 pub mod DropsHistories
 pub mod DropsFrames
 pub mod VersionChains
+pub mod VersionRows

@@ -8,3 +8,4 @@ pub mod priority;
 pub mod recovery;
 pub mod serial_order;
 pub mod states;
+pub mod versions;

@@ -1,0 +1,59 @@
+//! Versions of a key: a commit installs its write unless a version of the key stands later in the agenda.
+
+ghost use Rattle.std.specs.Prelude.{◌≡◌, ℕ, Bool, true, List, Contains};
+ghost use Rattle.std.specs.List.{AllByRecursion};
+ghost use Rattle.ltx_model.specs.declared.commands.Line.{Line};
+ghost use Rattle.ltx_model.specs.declared.replies.Entry.{Entry};
+ghost use Rattle.ltx_model.specs.Keys.{Cell};
+ghost use Rattle.ltx_model.specs.StoredRows.{row_at};
+ghost use Rattle.ltx_model.specs.Operations.{operations, writes_key};
+ghost use Rattle.ltx_model.specs.Rows.{run};
+ghost use Rattle.ltx_model.specs.Agenda.{serial, is_member, part_before, commits_of, moves_until};
+ghost use Rattle.ltx_model.specs.States.{Base, IsSound, State, LiveBatch, live_batches, latest};
+ghost use Rattle.ltx_model.specs.Histories.{state};
+ghost use Rattle.ltx_model.specs.Answers.{IsLegalWith};
+ghost use Rattle.ltx_laws.specs.Structure.{IsPairwise};
+ghost use Rattle.ltx_laws.specs.Orders.{IsPrefix};
+ghost use Rattle.ltx_laws.specs.Versions.{chain_of, newest, version_row, IsSublist};
+
+/// The installed versions of a key are writes of committed transactions, and they rise in commit time and in agenda order alike:
+/// they stand in the order of the commits, and each one stands before each later one in the agenda.
+pub fn installed_versions_rise()
+    ensures written { (built : State → Line → Bool) (base : Base) (history : List Entry) → IsSound base
+        → IsLegalWith built base history → (key : Cell)
+        → AllByRecursion (λ v. Contains (serial (state base history).agenda) v
+        × (writes_key (operations v) key ≡ true))
+        (chain_of key (state base history).moves) }
+    ensures time { (built : State → Line → Bool) (base : Base) (history : List Entry) → IsSound base
+        → IsLegalWith built base history → (key : Cell)
+        → IsSublist (chain_of key (state base history).moves)
+        (commits_of (state base history).moves) }
+    ensures agenda { (built : State → Line → Bool) (base : Base) (history : List Entry) → IsSound base
+        → IsLegalWith built base history → (key : Cell)
+        → IsPairwise (λ u v. is_member (part_before v.number (state base history).agenda)
+        u.number ≡ true) (chain_of key (state base history).moves) }
+{}
+
+/// The newest installed version of a key gives its row in the latest rows.
+pub fn newest_version_is_the_latest_row()
+    ensures { (built : State → Line → Bool) (base : Base) (history : List Entry) → IsSound base
+        → IsLegalWith built base history → (key : Cell)
+        → row_at (latest (state base history)) key
+        ≡ version_row base.rows key (newest (chain_of key (state base history).moves)) }
+{}
+
+/// The versions that were installed before the slot of a live batch begin the chain of their key, and the newest one of them
+/// gives the key's row in the rows of the batch's snapshot.
+pub fn newest_version_at_a_slot_is_the_snapshot_row()
+    ensures row { (built : State → Line → Bool) (base : Base) (history : List Entry) → IsSound base
+        → IsLegalWith built base history → (key : Cell)
+        → (batch : LiveBatch) → Contains (live_batches (state base history)) batch
+        → row_at (run base.rows batch.snapshot) key
+        ≡ version_row base.rows key
+        (newest (chain_of key (moves_until batch.tx.number (state base history).moves))) }
+    ensures first { (built : State → Line → Bool) (base : Base) (history : List Entry) → IsSound base
+        → IsLegalWith built base history → (key : Cell)
+        → (batch : LiveBatch) → Contains (live_batches (state base history)) batch
+        → IsPrefix (chain_of key (moves_until batch.tx.number (state base history).moves))
+        (chain_of key (state base history).moves) }
+{}
