@@ -37,3 +37,6 @@ pub mod DropsHistories
 pub mod DropsFrames
 pub mod VersionChains
 pub mod VersionRows
+pub mod WitnessHolders
+pub mod WitnessSearch
+pub mod WitnessChanges
