@@ -40,6 +40,10 @@ read_cases base sound s h =
 first_read : (built : State → Line → Bool) (base : Base) → IsReadState base (first_state base)
 first_read built base = record { guarded = subst (IsGuardedState base) (state-none (first_state base)) (guarded_of built base [] (legal-none built (first_state base))); reads = record { explained = gives-none base.rows; read = tt } }
 
+-- what open transactions have read in a state of a legal history
+pub reads_of : (built : State → Line → Bool) (base : Base) (history : List Entry) → IsSound base → IsLegalWith built base history → Reads base.rows (state base history)
+reads_of built base history sound legal = (along built (IsReadState base) (read_cases base sound) (first_state base) history (first_read built base) legal).reads
+
 pub explained : (built : State → Line → Bool) (base : Base) (history : List Entry) → IsSound base → IsLegalWith built base history → IsExplained base history (order (state base history))
 explained built base history sound legal =
     let h : IsReadState base (state base history) = along built (IsReadState base) (read_cases base sound) (first_state base) history (first_read built base) legal in

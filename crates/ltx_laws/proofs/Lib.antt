@@ -40,3 +40,4 @@ pub mod VersionRows
 pub mod WitnessHolders
 pub mod WitnessSearch
 pub mod WitnessChanges
+pub mod WitnessStates

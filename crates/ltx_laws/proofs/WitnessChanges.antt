@@ -1,21 +1,19 @@
 -- The first change that a short meets at its commit: it is one, and none stands before it.
 use Rattle.std.proofs.Common.{◌≡◌, ◌≢◌, ◌⊎◌, inl, inr, ℕ, ◌<◌, Bool, true, false, cond, not, ◌&&◌, ◌||◌, List, [], ◌∷◌, ◌++◌, map, Option, Some, None, option_map, refl, sym, ap, ◌∙◌, subst, arith, Contains}
 use Rattle.std.specs.List.{find, AllByRecursion}
-use Rattle.std.specs.Ordering.{is_le}
 use Rattle.std.proofs.lemmas.Bool.{eqb-true, and_parts}
 use Rattle.ltx_model.specs.declared.commands.Op.{Op}
 use Rattle.ltx_model.specs.declared.commands.Op.TheVariants.{Get, Scan, Put, Del}
 use Rattle.ltx_model.specs.declared.rows.StoredRow.{StoredRow}
 use Rattle.ltx_model.specs.Lists.{Numbered, numbered}
-use Rattle.ltx_model.specs.Keys.{Cell, cell_cmp, same_cell, IsRising}
+use Rattle.ltx_model.specs.Keys.{Cell, same_cell, IsRising}
 use Rattle.ltx_model.specs.StoredRows.{cell_of, row_at, writer_at}
 use Rattle.ltx_model.specs.Operations.{covers, looks_up}
 use Rattle.ltx_model.specs.States.{Step}
 use Rattle.ltx_model.specs.Shorts.{Change, Changes, IsNotAfter, IsFirstChange, same_writer, candidates, is_changed, change_of, first_change}
 use Rattle.ltx_lemmas.proofs.Lists.{some_same, none_some, contains_here, contains_cases, contains_parts, contains_back, all_contains, find_passes}
-use Rattle.ltx_lemmas.proofs.Cells.{same_cell_same, same_cell_refl, cell_cmp_refl}
-use Rattle.ltx_lemmas.proofs.Searches.{first_none, first_none_from, FirstGiven, first_given, is_in, is_in_before, is_in_now, none_passes, numbered_item}
-use Rattle.ltx_laws.proofs.WitnessSearch.{numbered_rising, number_behind, numbered_once, AreRisingCells, first_not_after, rising_both, cells_one}
+use Rattle.ltx_lemmas.proofs.Searches.{first_none, first_given, is_in, is_in_before, is_in_now, none_passes, numbered_item}
+use Rattle.ltx_laws.proofs.WitnessSearch.{number_behind, numbered_once, AreRisingCells, first_not_after, rising_both, cells_one}
 
 differ : (a b : Option ℕ) → same_writer a b ≡ false → a ≢ b
 differ None None e h = cc
@@ -121,10 +119,12 @@ first_change_is now steps rising c is =
     let given = given_is now g.item c g.gives in
     record { changes = changes_at now steps g.item c here given; first = λ other h. by_place g.front g.item g.back g.parts g.none given (all_contains (λ (b : Step). IsRising cell_of b.latest) steps g.item.item rising (numbered_item steps g.item here)) other h (contains_parts g.front (g.item ∷ g.back) h.at (subst (λ l. Contains l h.at) g.parts h.here)) } where
       at_item : (item : Numbered Step) → Given now item c → IsRising cell_of item.item.latest → (other : Change) (h : Changes now steps other) → item ≡ h.at → IsNotAfter c.op c.cell other.op other.cell
-      at_item item given rows other h same = inr (sym given.op ∙ ap (λ (o : Numbered Step). o.number) same ∙ h.same,
-          first_not_after (is_changed now item.earlier item.item) (candidates item.item.latest now item.item.op) c.cell other.cell (rising_candidates item.item.latest now item.item.op rows) given.first
-              (subst (λ (o : Numbered Step). is_in other.cell (candidates o.item.latest now o.item.op) ≡ true) (sym same) (candidate now steps other h))
-              (subst (λ (o : Numbered Step). is_changed now o.earlier o.item other.cell ≡ true) (sym same) (passes now steps other h)))
+      at_item item given rows other h same = inr (
+        sym given.op ∙ ap (λ (o : Numbered Step). o.number) same ∙ h.same,
+        first_not_after (is_changed now item.earlier item.item) (candidates item.item.latest now item.item.op) c.cell other.cell (rising_candidates item.item.latest now item.item.op rows) given.first
+            (subst (λ (o : Numbered Step). is_in other.cell (candidates o.item.latest now o.item.op) ≡ true) (sym same) (candidate now steps other h))
+            (subst (λ (o : Numbered Step). is_changed now o.earlier o.item other.cell ≡ true) (sym same) (passes now steps other h)),
+      )
 
       behind : (front : List (Numbered Step)) (item : Numbered Step) (back : List (Numbered Step)) → numbered steps ≡ front ++ item ∷ back → Given now item c → (other : Change) (h : Changes now steps other) → Contains back h.at → IsNotAfter c.op c.cell other.op other.cell
       behind front item back parts given other h later =

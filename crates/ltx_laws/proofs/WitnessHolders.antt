@@ -1,12 +1,12 @@
 -- The holder of a table is the least live batch that declared it; the held table is the least of those touched.
 use Rattle.std.proofs.Common.{◌≡◌, ◌⊎◌, inl, inr, ℕ, ◌<◌, ◌≤◌, Bool, true, false, cond, ◌||◌, ◌==◌, nat_le, List, [], ◌∷◌, Option, Some, None, option_map, refl, sym, ap, ◌∙◌, subst, arith, Contains}
-use Rattle.std.specs.List.{find, list_any, filter_map, cons_option, AllByRecursion}
+use Rattle.std.specs.List.{find, filter_map, cons_option, AllByRecursion}
 use Rattle.std.proofs.lemmas.Bool.{eqb-true, leb-true, leb-false}
 use Rattle.ltx_model.specs.declared.commands.Op.{Op}
 use Rattle.ltx_model.specs.Operations.{table_of, touches}
-use Rattle.ltx_model.specs.States.{Declaration, Kind, IsShort, IsPending, IsLive, Active, transaction_of, State, LiveBatch, as_live, live_batches}
-use Rattle.ltx_model.specs.Shorts.{holds, holder, IsHeld, Held, held_at, lesser, held_table, IsLeastHeld}
-use Rattle.ltx_lemmas.proofs.Lists.{some_same, none_some, contains_here, contains_cases, contains_none, contains_later, all_contains, find_passes, find_contains, find_not}
+use Rattle.ltx_model.specs.States.{Kind, IsShort, IsPending, IsLive, Active, transaction_of, State, LiveBatch, as_live, live_batches}
+use Rattle.ltx_model.specs.Shorts.{holds, holder, IsHeld, Held, lesser, held_table, IsLeastHeld}
+use Rattle.ltx_lemmas.proofs.Lists.{some_same, none_some, contains_cases, all_contains, find_passes, find_contains, find_not}
 use Rattle.ltx_lemmas.proofs.Members.{same_number}
 use Rattle.ltx_laws.specs.Structure.{IsPairwise}
 
@@ -67,7 +67,7 @@ holder_none s table is b live = by_find (find (holds table) (live_batches s)) re
   by_find None e h = find_not (holds table) (live_batches s) b e live
   by_find (Some c) e h = absurd (none_some (sym h))
 
-unheld : (s : State) (table n : ℕ) → holder s table ≡ None → IsHeld s table n → ⊥
+pub unheld : (s : State) (table n : ℕ) → holder s table ≡ None → IsHeld s table n → ⊥
 unheld s table n none h = let both : false ≡ true = sym (holder_none s table none h.batch h.live) ∙ h.declared in let no : ⊥ = cc in no
 
 -- a table has one least holder
@@ -148,7 +148,7 @@ held_least s rising (op ∷ ops) h is = by_both (holder s (table_of op)) refl (h
       let both : table_of op ≤ other = omega arith in both)
   by_less false m k le e f g rec = later_least (subst (λ (x : Held). IsLeastHeld s ops x.table x.holder) (some_same g) (rec k f))
       (λ n held. let less : k.table < table_of op = leb-false (table_of op) k.table le in
-        subst (λ (x : Held). x.table ≤ table_of op) (some_same g) (let l : k.table ≤ table_of op = omega arith in l))
+      subst (λ (x : Held). x.table ≤ table_of op) (some_same g) (let l : k.table ≤ table_of op = omega arith in l))
 
   by_both : (a : Option ℕ) → holder s (table_of op) ≡ a → (b : Option Held) → held_table s ops ≡ b → lesser (option_map (λ (m : ℕ). let g : Held = record { table = table_of op; holder = m } in g) a) b ≡ Some h
       → ((g : Held) → held_table s ops ≡ Some g → IsLeastHeld s ops g.table g.holder) → IsLeastHeld s (op ∷ ops) h.table h.holder

@@ -1,9 +1,9 @@
 -- Searches over numbered items and over rising keys: the first of them is the least.
-use Rattle.std.proofs.Common.{◌≡◌, ◌⊎◌, inl, inr, ℕ, ◌+◌, ◌<◌, ◌≤◌, Bool, true, false, cond, ◌||◌, List, [], ◌∷◌, ◌++◌, map, Option, Some, None, refl, sym, ap, ◌∙◌, subst, arith, Contains}
-use Rattle.std.specs.List.{find, list_any, AllByRecursion}
+use Rattle.std.proofs.Common.{◌≡◌, ◌⊎◌, inl, inr, ℕ, ◌+◌, ◌<◌, Bool, true, false, cond, ◌||◌, List, [], ◌∷◌, ◌++◌, map, Some, refl, sym, ap, ◌∙◌, subst, arith, Contains}
+use Rattle.std.specs.List.{find, AllByRecursion}
 use Rattle.std.specs.declared.cmp.Ordering.{Ordering}
 use Rattle.std.specs.declared.cmp.Ordering.TheVariants.{Less, Equal, Greater}
-use Rattle.std.specs.Ordering.{is_eq, is_le}
+use Rattle.std.specs.Ordering.{is_le}
 use Rattle.ltx_model.specs.Lists.{Numbered, numbered, numbered_from}
 use Rattle.ltx_model.specs.Keys.{Cell, cell_cmp, same_cell, AreAbove, IsRising, put_in_order}
 use Rattle.ltx_model.specs.declared.rows.StoredRow.{StoredRow}

@@ -9,3 +9,4 @@ pub mod recovery;
 pub mod serial_order;
 pub mod states;
 pub mod versions;
+pub mod witnesses;
