@@ -1,6 +1,8 @@
 pub mod Agendas
 pub mod CommitCases
 pub mod Forwarded
+pub mod FirstLate
+pub mod Firsts
 pub mod Guarded
 pub mod GuardedStates
 pub mod Pairs
