@@ -1,6 +1,7 @@
 pub mod Agendas
 pub mod CommitCases
 pub mod Forwarded
+pub mod FirstContradicted
 pub mod FirstLate
 pub mod Firsts
 pub mod Guarded
