@@ -51,9 +51,9 @@ module _ (test : Transaction → Bool) where
     by_test false is before (inr there) later =
         let other : u.number ≢ r.number = all_contains (λ y. u.number ≢ number_of y) ms (Committed r) apart.0 (serial_member ms r there) in
         rw (ne_eqb u.number r.number other) (by_cases (contains_cases u (before_first test (serial ms)) t before)) where
-      by_cases : (u ≡ t) ⊎ Contains (before_first test (serial ms)) t → Contains (u ∷ serial (part_before r.number ms)) t
-      by_cases (inl same) = subst (Contains (u ∷ serial (part_before r.number ms))) same (contains_here u (serial (part_before r.number ms)))
-      by_cases (inr at) = contains_later u (serial (part_before r.number ms)) t (later there pass at)
+          by_cases : (u ≡ t) ⊎ Contains (before_first test (serial ms)) t → Contains (u ∷ serial (part_before r.number ms)) t
+          by_cases (inl same) = subst (Contains (u ∷ serial (part_before r.number ms))) same (contains_here u (serial (part_before r.number ms)))
+          by_cases (inr at) = contains_later u (serial (part_before r.number ms)) t (later there pass at)
 
 -- the contradicted reader of a key
 contradicted_is : (q : Cell) (ts : List Transaction) (n : ℕ) → contradicted q ts ≡ Some n → (r : Transaction) × (find (λ (t : Transaction). looks_up_key (operations t) q) ts ≡ Some r) × (r.number ≡ n)
@@ -100,7 +100,7 @@ from_before p r t (m ∷ ms) apart hr ht before = by_test (has_number p m) refl 
       (subst (λ b. Contains (serial (cond b [] (m ∷ part_before r.number ms))) t) (ne_eqb (number_of m) r.number (in_rest r hr)) before))
 
 -- two members with one number are one
-one_member : (ms : List Member) → IsPairwise (λ x y. number_of x ≢ number_of y) ms → (a b : Member) → Contains ms a → Contains ms b → number_of a ≡ number_of b → a ≡ b
+pub one_member : (ms : List Member) → IsPairwise (λ x y. number_of x ≢ number_of y) ms → (a b : Member) → Contains ms a → Contains ms b → number_of a ≡ number_of b → a ≡ b
 one_member [] apart a b ha hb e = absurd (contains_none a ha)
 one_member (m ∷ ms) apart a b ha hb e = by_cases (contains_cases m ms a ha) (contains_cases m ms b hb) (one_member ms apart.1 a b) where
   by_cases : (m ≡ a) ⊎ Contains ms a → (m ≡ b) ⊎ Contains ms b → (Contains ms a → Contains ms b → number_of a ≡ number_of b → a ≡ b) → a ≡ b
@@ -130,7 +130,7 @@ module _ (s : State) (i : LiveBatch) (p : ℕ) (apart : IsPairwise (λ x y. numb
   reader_found v h =
       let found = find_any (looks v.cell) later (any_contains (looks v.cell) later h.reader h.after h.looks) in
       let none : list_any (writes v.cell) (before_first (looks v.cell) later) ≡ false = any_none (writes v.cell) (before_first (looks v.cell) later)
-          (λ t before. h.unwritten t (subst (λ n. Contains (serial (part_before n (part_from p s.agenda))) t) h.number (number_before (looks v.cell) (part_from p s.agenda) h.reader t apart_later h.after h.looks before))) in
+      (λ t before. h.unwritten t (subst (λ n. Contains (serial (part_before n (part_from p s.agenda))) t) h.number (number_before (looks v.cell) (part_from p s.agenda) h.reader t apart_later h.after h.looks before))) in
       (found.0, ap (option_and_then (unless_any (list_any (writes v.cell) (before_first (looks v.cell) later)))) found.1 ∙ ap (λ b. unless_any b found.0) none)
 
   witness_found : (v : Witness) (h : IsContradicted s i p v) → contradicts_of later h.writes.at ≡ None → ⊥
@@ -138,8 +138,8 @@ module _ (s : State) (i : LiveBatch) (p : ℕ) (apart : IsPairwise (λ x y. numb
       let reader = reader_found v h in
       let at_cell : contradicted (cell_of_write h.writes.write) later ≡ Some reader.0.number = ap (λ c. contradicted c later) h.writes.key ∙ reader.1 in
       let gives : contradicts_of later h.writes.at ≡ Some (record { op = h.writes.at.number; cell = cell_of_write h.writes.write; other = reader.0.number })
-          = ap (option_and_then (contradicted_write later h.writes.at.number)) h.writes.writes
-              ∙ ap (option_map (λ (r : ℕ). let x : Witness = record { op = h.writes.at.number; cell = cell_of_write h.writes.write; other = r } in x)) at_cell in
+      = ap (option_and_then (contradicted_write later h.writes.at.number)) h.writes.writes
+      ∙ ap (option_map (λ (r : ℕ). let x : Witness = record { op = h.writes.at.number; cell = cell_of_write h.writes.write; other = r } in x)) at_cell in
       none_some (sym none ∙ gives)
 
   pub none_contradicted : first_contradicted s i p ≡ None → (v : Witness) → IsContradicted s i p v → ⊥

@@ -73,10 +73,12 @@ module _ (s : State) (i : LiveBatch) (p : ℕ) where
         };
         first = λ v h. by_place w g given.0 given.1 v h (in_parts g.front g.item g.back h.looks.at (subst (λ l. Contains l h.looks.at) g.parts h.looks.here));
       } where
-    by_place : (w : Witness) (g : FirstGiven (late_of s i p cells) ops w) → find (is_late_key s i p g.item.earlier g.item.item) cells ≡ Some w.cell → w.op ≡ g.item.number → (v : Witness) (h : IsLate s i p v)
-        → Contains g.front h.looks.at ⊎ ((g.item ≡ h.looks.at) ⊎ Contains g.back h.looks.at) → IsNotAfter w.op w.cell v.op v.cell
-    by_place w g found op v h (inl front) = absurd (late_found v h (all_contains (λ o. late_of s i p cells o ≡ None) g.front h.looks.at g.none front))
-    by_place w g found op v h (inr (inl same)) = inr (op ∙ ap (λ (o : Numbered Op). o.number) same ∙ h.looks.same,
-        first_key (is_late_key s i p g.item.earlier g.item.item) w.cell v.cell cells (written_by_rising [] i.snapshot tt) found (last_written v.cell v.other h.last)
-            (subst (λ (o : Numbered Op). is_late_key s i p o.earlier o.item v.cell ≡ true) (sym same) (late_passes v h)))
-    by_place w g found op v h (inr (inr back)) = inl (subst₂ (λ a b. a < b) (sym op) h.looks.same (behind_greater ops (numbered_rising (batch_operations i)) g.front g.item g.back g.parts h.looks.at back))
+        by_place : (w : Witness) (g : FirstGiven (late_of s i p cells) ops w) → find (is_late_key s i p g.item.earlier g.item.item) cells ≡ Some w.cell → w.op ≡ g.item.number → (v : Witness) (h : IsLate s i p v)
+            → Contains g.front h.looks.at ⊎ ((g.item ≡ h.looks.at) ⊎ Contains g.back h.looks.at) → IsNotAfter w.op w.cell v.op v.cell
+        by_place w g found op v h (inl front) = absurd (late_found v h (all_contains (λ o. late_of s i p cells o ≡ None) g.front h.looks.at g.none front))
+        by_place w g found op v h (inr (inl same)) = inr (
+          op ∙ ap (λ (o : Numbered Op). o.number) same ∙ h.looks.same,
+          first_key (is_late_key s i p g.item.earlier g.item.item) w.cell v.cell cells (written_by_rising [] i.snapshot tt) found (last_written v.cell v.other h.last)
+              (subst (λ (o : Numbered Op). is_late_key s i p o.earlier o.item v.cell ≡ true) (sym same) (late_passes v h)),
+        )
+        by_place w g found op v h (inr (inr back)) = inl (subst₂ (λ a b. a < b) (sym op) h.looks.same (behind_greater ops (numbered_rising (batch_operations i)) g.front g.item g.back g.parts h.looks.at back))

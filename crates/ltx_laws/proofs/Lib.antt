@@ -11,6 +11,7 @@ pub mod Places
 pub mod PlacesByCommit
 pub mod Preserved
 pub mod Priorities
+pub mod Refused
 pub mod Snapshots
 pub mod Spared
 pub mod Standing
@@ -21,6 +22,7 @@ pub mod StructureSlots
 pub mod Structures
 pub mod Told
 pub mod Unread
+pub mod WaitsFor
 pub mod Least
 pub mod LiveStates
 pub mod Transitions

@@ -40,7 +40,7 @@ use Rattle.ltx_laws.proofs.Least.{IsLiveKind, CommitsFrom, IsLeastFrom, least_al
 use Rattle.ltx_laws.proofs.PlacesByCommit.{before_legal, entry_is}
 
 -- the answer to the commit of a live batch
-answer_commit : (s : State) (session : ℕ) (o : Active) (d : Declaration) (snapshot : List Transaction) → active_of s session ≡ Some o → o.kind ≡ IsLive d snapshot
+pub answer_commit : (s : State) (session : ℕ) (o : Active) (d : Declaration) (snapshot : List Transaction) → active_of s session ≡ Some o → o.kind ≡ IsLive d snapshot
     → answer s (asks session verbs.Commit) ≡ commit_live s (batch_of o d snapshot) (target s (batch_of o d snapshot))
 unfolding answer
 answer_commit s session o d snapshot is kind = rw is (rw kind refl)

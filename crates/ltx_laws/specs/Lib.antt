@@ -7,3 +7,4 @@ pub mod Drops
 pub mod Priority
 pub mod Logs
 pub mod Versions
+pub mod Refusals
