@@ -5,11 +5,8 @@ pub mod commits;
 pub mod floor;
 pub mod preserve;
 pub mod priority;
-<<<<<<< HEAD
 pub mod recovery;
-=======
 pub mod refusals;
->>>>>>> cba1241 (Laws on refusals and waits: late, contradicts and waiting come with what the relations say)
 pub mod serial_order;
 pub mod states;
 pub mod versions;
