@@ -1,4 +1,6 @@
 //! Text: words of byte strings, decimals, and the lines of a source.
+//!
+//! A script is lines of words with one space between two. What is a command is for the crates above.
 #![tactic(auto)]
 
 mod block;
