@@ -1,5 +1,5 @@
 //! Decimals: each number has one spelling in digits, with no sign and no leading zero, and zero is `0`.
-ghost use Rattle.std.specs.Prelude.{◌≡◌, ◌≢◌, ◌++◌, ◌^◌, ◌<◌, ◌≤◌, ◌*◌, ◌+◌, ◌↔◌, ℕ, length, Some, OnOk, OnErr, IfSome, IfNone};
+ghost use Rattle.std.specs.Prelude.{◌≡◌, ◌≢◌, ◌++◌, ◌^◌, ◌<◌, ◌≤◌, ℕ, length, Some, OnOk, OnErr, IfSome, IfNone};
 ghost use Rattle.std.specs.Str.Parse.{AllDigits, digits_value};
 ghost use Rattle.ltx_text.specs.Decimals.{decimal_of};
 ghost use Rattle.ltx_text.specs.Words.{AreVisible};

@@ -1,8 +1,8 @@
 //! The lines of a source, one at a time, for whoever runs a script.
 //! The bytes are taken in blocks, a read is made only where no whole line is held, and the held bytes
 //! outlive a fault.
-ghost use Rattle.std.specs.Prelude.{◌≡◌, ◌≢◌, ℕ, List, Option, Some, ◌+◌, ◌-◌, ◌≤◌, ◌<◌, ◌↔◌, [], ◌∷◌, ◌++◌, length, take, drop, slice_index, IfOk, OnOk, OnErr, IsErrOf, MatchBool, MatchOption};
-ghost use Rattle.std.specs.Io.KnownBytes.{Consumes, IsAtEnd};
+ghost use Rattle.std.specs.Prelude.{◌≡◌, ℕ, List, Option, Some, ◌+◌, ◌-◌, ◌≤◌, ◌<◌, ◌↔◌, [], ◌∷◌, ◌++◌, length, take, drop, IfOk, OnOk, OnErr, IsErrOf, MatchBool, MatchOption};
+ghost use Rattle.std.specs.Io.KnownBytes.{IsAtEnd};
 ghost use Rattle.ltx_outside.specs.Faults.{Rose};
 ghost use Rattle.ltx_text.specs.Lines.{Cuts, IsFirstFeed, LinesState, NoFeedAhead, feeds, fresh, piece_of, pieces_of, to_go};
 ghost use Rattle.ltx_text.specs.Pieces.{OnEnd, OnLine, given};
@@ -10,7 +10,7 @@ ghost use Rattle.ltx_text.specs.Pieces.{OnEnd, OnLine, given};
 use crate::block::{Block, MOST_READ};
 use crate::piece::{Piece, TextFault};
 use ltx_model::memory::NoMemory;
-use ltx_outside::{Failed, Source};
+use ltx_outside::Source;
 use memchr::memchr;
 use std::alloc::Global;
 use std::marker::Model;

@@ -1,7 +1,7 @@
 //! Words: each byte string has one spelling in visible bytes, so that words can be joined by spaces.
 //! A visible byte other than `%` stands for itself, every other byte is `%HH` in upper case, and the
 //! empty string is `%`.
-ghost use Rattle.std.specs.Prelude.{◌≡◌, ◌≢◌, ◌++◌, ◌≤◌, ◌<◌, ◌/◌, ◌%◌, ℕ, List, length, take, [], ◌∷◌, OnOk, OnErr, IfOk, IfSome, IfNone, IsFalse, IsSomeAnd};
+ghost use Rattle.std.specs.Prelude.{◌≡◌, ◌≢◌, ◌++◌, ◌≤◌, ◌<◌, ◌/◌, ◌%◌, ℕ, List, length, take, OnOk, OnErr, IfOk, IfSome, IfNone, IsFalse, IsSomeAnd};
 ghost use Rattle.std.specs.List.{AllPass};
 ghost use Rattle.ltx_text.specs.Words.{AreBytes, AreVisible, byte_spelling, hex_digit, is_plain, spellings, word_of};
 
