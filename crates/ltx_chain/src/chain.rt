@@ -5,7 +5,7 @@
 //! last version whose mark is at most that. Room is made before a commit, so that the commit
 //! itself takes no memory.
 
-ghost use Rattle.std.specs.Prelude.{◌≡◌, ◌+◌, ◌≤◌, ◌<◌, ℕ, [], ◌∷◌, ◌++◌, length, take, filter, OnOk, IfOk, option_copied};
+ghost use Rattle.std.specs.Prelude.{◌≡◌, ◌+◌, ◌≤◌, ◌<◌, ℕ, [], ◌∷◌, ◌++◌, length, take, filter, OnOk, OnErr, IfOk, option_copied};
 ghost use Rattle.ltx_chain.specs.Versions.{AreBelow, IsRising, is_at_most, latest, visible, kept_from};
 
 use ltx_model::bytes::Value;
@@ -51,11 +51,12 @@ impl Chain {
         }
     }
 
-    /// Makes room for a version. The versions stay, whatever is answered.
+    /// Makes room for a version. After NoMemory nothing has changed.
     pub fn reserve_one(&mut self) -> Result<(), NoMemory>
         ensures items { self.new.items ≡ self.old.items }
         ensures made { OnOk result (0 < self.new.room) }
         ensures kept { self.old.room ≤ self.new.room }
+        ensures err { OnErr result (self.new ≡ self.old) }
     {
         // Most keys keep one version.
         if self.versions.is_empty() {
