@@ -1,0 +1,11 @@
+pub mod Changes
+pub mod InPlace
+pub mod NextPuts
+pub mod Order
+pub mod Pairs
+pub mod Places
+pub mod Rows
+pub mod ScanSteps
+pub mod Scans
+pub mod Tables
+pub mod Walks

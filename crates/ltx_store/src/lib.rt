@@ -1,0 +1,6 @@
+//! The multiversion store: 64 tables of keys with their versions.
+#![tactic(auto)]
+
+pub mod scanned;
+pub mod store;
+mod table;
