@@ -27,6 +27,9 @@ module _ (base : Base) (s : State) (session : ℕ) (o : Active) (inv : Structure
   apart_rest : AllByRecursion (λ u. o.number ≢ u.number) rest
   apart_rest = others_rising s.active session o is inv.opens.rising
 
+  apart_from_rest : AllByRecursion (λ u. u.number ≢ o.number) rest
+  apart_from_rest = all_map (λ u. o.number ≢ u.number) (λ u. u.number ≢ o.number) (λ u ne e. ne (sym e)) rest apart_rest
+
   others : AllByRecursion (IsOther o.number) s.agenda
   others = all_map (IsKnown s.active s.moves) (IsOther o.number) (others_committed s.active session o is s.moves) s.agenda inv.members.known
 
@@ -133,7 +136,7 @@ module _ (base : Base) (s : State) (session : ℕ) (o : Active) (inv : Structure
           known = all_push (IsKnown rest (later m plain)) s.agenda new
               (all_both (λ x. number_of x ≢ o.number) (IsKnown s.active s.moves) (IsKnown rest (later m plain))
               (known_on s.active session o is s.moves (later m plain) (λ n e. slots_same m plain n) (λ n e. any_push_not (λ x. forwards n x.move) s.moves m refl)) s.agenda apart inv.members.known)
-              (all_map (λ u. o.number ≢ u.number) (λ u. u.number ≢ o.number) (λ u ne e. ne (sym e)) rest apart_rest);
+              apart_from_rest;
         };
         order = pairs_push (λ x y. IsBefore (later m plain) (number_of x) (number_of y)) s.agenda new (all_map (λ x. number_of x ≢ o.number) (λ x. IsBefore (later m plain) (number_of x) o.number) fresh_last s.agenda apart)
             (order_later m plain s.agenda inv.order);
@@ -149,7 +152,7 @@ module _ (base : Base) (s : State) (session : ℕ) (o : Active) (inv : Structure
   home_known : (m : Timed) (plain : (n : ℕ) → is_slot n m.move ≡ false) → ((n : ℕ) → forwards n m.move ≡ false) → (x : Member) → IsKnown s.active s.moves x → IsKnown rest (later m plain) (commit_at_slot tx x)
   home_known m plain unforwarded x h = by_test (has_number o.number x) refl where
     by_test : (b : Bool) → has_number o.number x ≡ b → IsKnown rest (later m plain) (cond b (Committed tx) x)
-    by_test true at = all_map (λ u. o.number ≢ u.number) (λ u. u.number ≢ o.number) (λ u ne e. ne (sym e)) rest apart_rest
+    by_test true at = apart_from_rest
     by_test false at = known_on s.active session o is s.moves (later m plain) (λ n e. slots_same m plain n) (λ n e. any_push_not (λ y. forwards n y.move) s.moves m (unforwarded n)) x
         (λ e. true_false (sym (eq-eqb (number_of x) o.number e) ∙ at)) h
 
@@ -256,7 +259,7 @@ module _ (base : Base) (s : State) (session : ℕ) (o : Active) (inv : Structure
           members = record {
             above = all_insert new p (λ x. base.last < number_of x) above less (gone_all (λ x. base.last < number_of x) (λ x. base.last < number_of x) (λ x ne h. h) inv.members.above);
             bound = all_insert new p (λ x. number_of x ≤ s.last) bound less (gone_all (λ x. number_of x ≤ s.last) (λ x. number_of x ≤ s.last) (λ x ne h. h) inv.members.bound);
-            known = all_insert new p (IsKnown rest (later m plain)) (all_map (λ u. o.number ≢ u.number) (λ u. u.number ≢ o.number) (λ u ne e. ne (sym e)) rest apart_rest) less
+            known = all_insert new p (IsKnown rest (later m plain)) apart_from_rest less
                 (known_gone m plain (λ n e. other_number n (λ same. e (sym same))));
           };
           order = pairs_insert new p (λ x y. IsBefore (later m plain) (number_of x) (number_of y)) less front back (order_gone m plain);
