@@ -46,3 +46,5 @@ pub mod WitnessHolders
 pub mod WitnessSearch
 pub mod WitnessChanges
 pub mod WitnessStates
+pub mod WitnessBatches
+pub mod WitnessBatchStates

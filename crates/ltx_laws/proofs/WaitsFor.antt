@@ -52,11 +52,11 @@ agenda_apart_of base s inv = pairs_all (λ x y. IsBefore s.moves (number_of x) (
 
 module _ (base : Base) (s : State) (inv : Structure base s) (i : LiveBatch) where
   -- live batches stand in the order of their numbers
-  live_rising : IsPairwise (λ a b. a.tx.number < b.tx.number) (live_batches s)
+  pub live_rising : IsPairwise (λ a b. a.tx.number < b.tx.number) (live_batches s)
   live_rising = pairs_given (λ a b. a.number < b.number) (λ a b. a.tx.number < b.tx.number) (λ o. as_live o.kind (transaction_of o))
       (λ x y a b less ea eb. subst₂ (λ m n. m < n) (live_number x a ea) (live_number y b eb) less) s.active inv.opens.rising
 
-  apart : IsPairwise (λ x y. number_of x ≢ number_of y) s.agenda
+  pub apart : IsPairwise (λ x y. number_of x ≢ number_of y) s.agenda
   apart = agenda_apart_of base s inv
 
   -- a live batch that is overtaken by the relation is so by the test
@@ -72,7 +72,7 @@ module _ (base : Base) (s : State) (inv : Structure base s) (i : LiveBatch) wher
       any_contains (λ (c : LiveBatch). (c.tx.number == j) && preserves_what_looks i c) (live_batches s) b h.live (both (b.tx.number == j) (preserves_what_looks i b) (eq-eqb b.tx.number j h.number) whole)
 
   -- whoever is overtaken by the relation is so by the test
-  overtakes_from : (j : ℕ) → Overtakes s i j → (y : Member) → Contains s.agenda y → number_of y ≡ j → overtakes s i y ≡ true
+  pub overtakes_from : (j : ℕ) → Overtakes s i j → (y : Member) → Contains s.agenda y → number_of y ≡ j → overtakes s i y ≡ true
   overtakes_from j (inl c) y here number =
       let same : Committed c.tx ≡ y = one_member s.agenda apart (Committed c.tx) y (serial_member s.agenda c.tx c.member) here (c.number ∙ sym number) in
       let w = write_at c.key (operations c.tx) c.writes in
@@ -165,7 +165,7 @@ module _ (base : Base) (s : State) (inv : Structure base s) (i : LiveBatch) wher
           three true false c e = absurd (true_false (sym e))
           three false b c e = absurd (true_false (sym e))
 
-    may_read_test : (b : LiveBatch) → MayRead s i p b → may_still_read s i p b ≡ true
+    pub may_read_test : (b : LiveBatch) → MayRead s i p b → may_still_read s i p b ≡ true
     may_read_test b h =
         let w = write_at h.key (batch_operations i) h.writes in
         let area : area_test b w.0 ≡ true = ap (λ (c : Cell). has_table b.declared.reads c.table) w.2 ∙ h.area in

@@ -147,7 +147,7 @@ changes_once now steps c d h g ops cells =
     let current : c.current ≡ d.current = sym h.current ∙ (λ i. writer_at now (cells i)) ∙ g.current in
     λ i. record { op = ops i; cell = cells i; found = found i; current = current i }
 
-not_after_once : (op op' : ℕ) (cell cell' : Cell) → IsNotAfter op cell op' cell' → IsNotAfter op' cell' op cell → (op ≡ op') × (cell ≡ cell')
+pub not_after_once : (op op' : ℕ) (cell cell' : Cell) → IsNotAfter op cell op' cell' → IsNotAfter op' cell' op cell → (op ≡ op') × (cell ≡ cell')
 not_after_once op op' cell cell' (inl less) (inl more) = absurd (let no : ⊥ = omega arith in no)
 not_after_once op op' cell cell' (inl less) (inr g) = absurd (let eq : op' ≡ op = g.0 in let no : ⊥ = omega arith in no)
 not_after_once op op' cell cell' (inr h) (inl more) = absurd (let eq : op ≡ op' = h.0 in let no : ⊥ = omega arith in no)
