@@ -126,7 +126,7 @@ impl<V: Drop> Index<V> {
             return;
         }
         if let Some(leaf) = self.leaves.get_mut(at) {
-            if let Some(upper) = leaf.split_full() {
+            if let Ok(Some(upper)) = leaf.split_full() {
                 insert_leaf(&mut self.leaves, at + 1, upper);
             }
         }

@@ -1,7 +1,7 @@
 //! A leaf of the index: a sorted run of at most 128 pairs, with the keys in one vector and their
 //! values in another, at equal places. Each is an ordered map of its own, but for its limit.
 
-ghost use Rattle.std.specs.Prelude.{◌≡◌, ◌≤◌, [], IsSome, IsOk, IfOk, IfErr, IfSome, IfNone, OnErr, IsTrue, not, vec_len, insert, ◌<◌, ◌++◌, ◌∷◌, ◌↔◌, length, take, drop};
+ghost use Rattle.std.specs.Prelude.{◌≡◌, ◌≤◌, [], IsSome, IsOk, IfOk, IfErr, IfSome, IfNone, OnOk, OnErr, IsTrue, not, vec_len, insert, ◌<◌, ◌++◌, ◌∷◌, ◌↔◌, length, take, drop};
 ghost use Rattle.std.specs.Borrow.{LendsIf, sem};
 ghost use Rattle.std.specs.List.Sorted.{IsStrictlySortedBy};
 ghost use Rattle.std.specs.Map.Iter.{deref_pair};
@@ -13,6 +13,7 @@ ghost use Rattle.ltx_index.specs.Leaves.{first_key};
 ghost use Rattle.ltx_index.specs.contracts.leaf.Leaf.{the_row};
 
 use ltx_model::bytes::Key;
+use ltx_model::memory::NoMemory;
 use std::alloc::Global;
 use std::cmp::Ordering;
 use std::marker::Model;
@@ -140,18 +141,20 @@ impl<V> Leaf<V> {
         }
     }
 
-    /// Splits a full run and gives its upper half. Where it is not full, and for want of memory,
-    /// there is none, and the run is as before.
-    pub fn split_full(&mut self) -> Option<Leaf<V>>
-        ensures halves { IfSome result (λ upper. self.old ≡ self.new ++ upper) }
-        ensures filled { IfSome result (λ upper. (0 < length self.new) × (0 < length upper)) }
-        ensures kept { IfNone result (self.new ≡ self.old) }
+    /// Splits a full run and gives its upper half; none where it is not full. For want of memory
+    /// the run is as before.
+    pub fn split_full(&mut self) -> Result<Option<Leaf<V>>, NoMemory>
+        ensures full { IfOk result (λ upper. IsSome upper ↔ (length self.old ≡ 128)) }
+        ensures halves { IfOk result (λ upper. IfSome upper (λ upper. self.old ≡ self.new ++ upper)) }
+        ensures filled { IfOk result (λ upper. IfSome upper (λ upper. (0 < length self.new) × (0 < length upper))) }
+        ensures whole { IfOk result (λ upper. IfNone upper (self.new ≡ self.old)) }
+        ensures kept { OnErr result (self.new ≡ self.old) }
     {
         if self.keys.len() < MOST {
-            return None;
+            return Ok(None);
         }
         let (keys, values) = split_at(&mut self.keys, &mut self.values, MOST / 2)?;
-        Some(Leaf { keys, values })
+        Ok(Some(Leaf { keys, values }))
     }
 }
 
@@ -210,25 +213,26 @@ fn put_at<V>(
 }
 
 // Takes what stands from the place on out of both vectors, or leaves both for want of memory.
-fn split_at<V>(keys: &mut Vec<Key>, values: &mut Vec<V>, at: usize) -> Option<(Vec<Key>, Vec<V>)>
+fn split_at<V>(
+    keys: &mut Vec<Key>,
+    values: &mut Vec<V>,
+    at: usize,
+) -> Result<(Vec<Key>, Vec<V>), NoMemory>
     requires in_keys { at ≤ vec_len keys.old }
     requires in_values { at ≤ vec_len values.old }
-    ensures keys_kept { IfSome result (λ _. keys.new.items ≡ take at keys.old.items) }
-    ensures values_kept { IfSome result (λ _. values.new.items ≡ take at values.old.items) }
-    ensures keys_taken { IfSome result (λ upper. upper.0.items ≡ drop at keys.old.items) }
-    ensures values_taken { IfSome result (λ upper. upper.1.items ≡ drop at values.old.items) }
-    ensures kept { IfNone result ((keys.new.items ≡ keys.old.items) × (values.new.items ≡ values.old.items)) }
+    ensures keys_kept { OnOk result (keys.new.items ≡ take at keys.old.items) }
+    ensures values_kept { OnOk result (values.new.items ≡ take at values.old.items) }
+    ensures keys_taken { IfOk result (λ upper. upper.0.items ≡ drop at keys.old.items) }
+    ensures values_taken { IfOk result (λ upper. upper.1.items ≡ drop at values.old.items) }
+    ensures kept { OnErr result ((keys.new.items ≡ keys.old.items) × (values.new.items ≡ values.old.items)) }
 {
-    let mut upper = match keys.split_off(at) {
-        Ok(upper) => upper,
-        Err(_) => return None,
-    };
+    let mut upper = keys.split_off(at)?;
     match values.split_off(at) {
-        Ok(others) => Some((upper, others)),
+        Ok(others) => Ok((upper, others)),
         Err(_) => {
             // They go back into the room that they left.
             let _ = keys.append(&mut upper);
-            None
+            Err(NoMemory)
         }
     }
 }

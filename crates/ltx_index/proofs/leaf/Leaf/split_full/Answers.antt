@@ -1,4 +1,5 @@
-use Rattle.std.proofs.Common.{◌≤◌, length, take, drop, arith}
+use Rattle.std.proofs.Common.{◌<◌, ◌≤◌, length, take, drop, refl, arith}
+use Rattle.std.proofs.lemmas.Bool.{false≢true}
 use Rattle.std.proofs.lemmas.List.{length-take, length-drop}
 use Rattle.ltx_index.proofs.Places.{run_take, run_drop, zip-halves, length_run}
 use Rattle.ltx_index.proofs.leaf.Leaf.split_full.Goals as goal
@@ -17,6 +18,18 @@ pub invariant_of-self-2 : goal.invariant_of-self-2
 invariant_of-self-2 g c =
     let halves = c.in_ok-keys.ensures in
     rw (halves.keys_kept, halves.values_kept) (run_take c.self.inside.keys.items c.self.inside.values.items c.self.invariant 64)
+
+pub returns-then-len-lt-MOST-clause-full : goal.returns-then-len-lt-MOST-clause-full
+returns-then-len-lt-MOST-clause-full g c =
+    let size = length_run c.self.inside.keys.items c.self.inside.values.items c.self.invariant in
+    let room : length c.self.inside.keys.items < 128 = omega (arith, c.if-len-lt-MOST.true, c.len.ensures) in
+    rw (← c.self.view_is) (λ none. absurd (false≢true none), λ full. absurd (omega (arith, room, size, full)))
+
+pub returns-clause-full : goal.returns-clause-full
+returns-clause-full g c =
+    let size = length_run c.self.inside.keys.items c.self.inside.values.items c.self.invariant in
+    let full : 128 ≤ length c.self.inside.keys.items = omega (arith, c.if-len-lt-MOST.false, c.len.ensures) in
+    rw (← c.self.view_is) (λ _. omega (arith, full, size, c.self.invariant.at_most), λ _. refl)
 
 pub returns-clause-halves : goal.returns-clause-halves
 returns-clause-halves g c =
