@@ -1,1 +1,5 @@
+pub mod Parts
 pub mod Spellings
+pub mod ValueLemmas
+pub mod SetLemmas
+pub mod SetTexts

@@ -1,5 +1,5 @@
 -- The spelling of each command: words of visible bytes with one space between two.
-use Rattle.std.specs.Prelude.{ℕ, ◌<◌, ◌≤◌, ◌^◌, ◌==◌, if◌then◌else◌, List, [], ◌∷◌, ◌++◌, length, filter, codes}
+use Rattle.std.specs.Prelude.{ℕ, ◌<◌, ◌≤◌, ◌^◌, ◌==◌, if◌then◌else◌, List, [], ◌∷◌, ◌++◌, length, filter, map, codes}
 use Rattle.std.specs.List.{range_with_len, join_with_byte}
 use Rattle.ltx_model.specs.declared.commands.Op.{Op}
 use Rattle.ltx_model.specs.declared.commands.Op.TheVariants.{Get, Scan, Put, Del}
@@ -17,9 +17,7 @@ joined words = join_with_byte 32 words
 
 -- numbers with a comma between two
 abbrev pub commas : List ℕ → List ℕ
-commas [] = []
-commas (n ∷ []) = decimal_of n
-commas (n ∷ m ∷ ms) = decimal_of n ++ 44 ∷ commas (m ∷ ms)
+commas numbers = join_with_byte 44 (map decimal_of numbers)
 
 -- the tables of a set, rising
 unfoldable pub tables_of : ℕ → List ℕ

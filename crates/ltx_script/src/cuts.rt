@@ -1,0 +1,125 @@
+//! Cutting a line at its spaces, and a set of tables at its commas, without a copy.
+
+ghost use Rattle.std.specs.Prelude.{◌≡◌, ◌<◌, ◌&&◌, ℕ, List, length, nat_lt, ◌∷◌, [], Option, Some, None, MatchOption, option_copied};
+ghost use Rattle.std.specs.List.{list_all};
+ghost use Rattle.ltx_text.specs.Words.{is_visible};
+ghost use Rattle.ltx_script.specs.Lines.{cut_at, parts_after, words_of, words_after, is_word, alone, next_word, at_most_one, one_or_two, two, three};
+ghost use Rattle.ltx_script.specs.Readers.{Gives};
+
+use crate::refusal::Refusal;
+use ltx_model::commands::Bad;
+use memchr::memchr;
+
+/// The text up to the first such byte, and the text behind it, if it is there.
+pub(crate) fn cut(text: &[u8], at: u8) -> (&[u8], Option<&[u8]>)
+    ensures parts { cut_at at text.now ≡ result.0.now ∷ parts_after at (option_copied result.1) }
+    ensures shorter { MatchOption result.1 (result.0.now ≡ text.now) (λ rest. length rest.now < length text.now) }
+{
+    match memchr(at, text) {
+        None => (text, None),
+        Some(i) => {
+            let (front, rest) = text.split_at(i);
+            let (_, after) = rest.split_at(1);
+            (front, Some(after))
+        }
+    }
+}
+
+/// Whether the byte is visible.
+fn is_visible(byte: u8) -> bool
+    ensures { result ≡ is_visible byte }
+{
+    byte.is_ascii_graphic()
+}
+
+/// Whether all bytes are visible.
+fn are_visible(text: &[u8]) -> bool
+    ensures { result ≡ list_all is_visible text.now }
+{
+    text.iter().all(|b| is_visible(*b))
+}
+
+/// Whether the text is a word: one or more visible bytes.
+fn is_word(text: &[u8]) -> bool
+    ensures { result ≡ is_word text.now }
+{
+    !text.is_empty() && are_visible(text)
+}
+
+/// Whether the line is one or more words with one space between two.
+pub(crate) fn are_words(line: &[u8]) -> bool
+    ensures { result ≡ list_all is_word (words_of line.now) }
+{
+    let mut text = line;
+    loop {
+        let (word, after) = cut(text, b' ');
+        if !is_word(word) {
+            return false;
+        }
+        let Some(after) = after else {
+            return true;
+        };
+        text = after;
+    }
+}
+
+/// That there is no further word.
+pub(crate) fn alone<X: Drop>(rest: Option<&[u8]>, x: X) -> Result<X, Refusal>
+    ensures { Gives (λ x. x) result (alone (words_after (option_copied rest.entry)) x) }
+{
+    match rest {
+        None => Ok(x),
+        Some(_) => Err(Refusal::Cause(Bad::Words)),
+    }
+}
+
+/// The next word and what stands behind it. Where there is none, the number of words is wrong.
+pub(crate) fn next_word(rest: Option<&[u8]>) -> Result<(&[u8], Option<&[u8]>), Refusal>
+    ensures { Gives (λ p. (p.0.now, words_after (option_copied p.1))) result (next_word (words_after (option_copied rest.entry))) }
+{
+    match rest {
+        None => Err(Refusal::Cause(Bad::Words)),
+        Some(text) => Ok(cut(text, b' ')),
+    }
+}
+
+/// The only word, if there is one.
+fn at_most_one(rest: Option<&[u8]>) -> Result<Option<&[u8]>, Refusal>
+    ensures { Gives option_copied result (at_most_one (words_after (option_copied rest.entry))) }
+{
+    let Some(text) = rest else {
+        return Ok(None);
+    };
+    let (word, rest) = cut(text, b' ');
+    alone(rest, Some(word))
+}
+
+/// A word, and maybe a second one, with none behind them.
+#[tactic(auto, unfolding(crate::specs::Lines::one_or_two))]
+pub(crate) fn one_or_two(rest: Option<&[u8]>) -> Result<(&[u8], Option<&[u8]>), Refusal>
+    ensures { Gives (λ p. (p.0.now, option_copied p.1)) result (one_or_two (words_after (option_copied rest.entry))) }
+{
+    let (first, rest) = next_word(rest)?;
+    Ok((first, at_most_one(rest)?))
+}
+
+/// Two words with none behind them.
+#[tactic(auto, unfolding(crate::specs::Lines::two))]
+pub(crate) fn two(rest: Option<&[u8]>) -> Result<(&[u8], &[u8]), Refusal>
+    ensures { Gives (λ p. (p.0.now, p.1.now)) result (two (words_after (option_copied rest.entry))) }
+{
+    let (first, rest) = next_word(rest)?;
+    let (second, rest) = next_word(rest)?;
+    alone(rest, (first, second))
+}
+
+/// Three words with none behind them.
+#[tactic(auto, unfolding(crate::specs::Lines::three))]
+pub(crate) fn three(rest: Option<&[u8]>) -> Result<(&[u8], &[u8], &[u8]), Refusal>
+    ensures { Gives (λ p. (p.0.now, p.1.now, p.2.now)) result (three (words_after (option_copied rest.entry))) }
+{
+    let (first, rest) = next_word(rest)?;
+    let (second, rest) = next_word(rest)?;
+    let (third, rest) = next_word(rest)?;
+    alone(rest, (first, second, third))
+}
