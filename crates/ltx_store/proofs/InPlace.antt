@@ -1,6 +1,5 @@
 -- What a table in its place answers of the store.
-use Rattle.std.proofs.Common.{◌≡◌, ℕ, ◌+◌, Bool, List, Option, Some, None, IfSome, IfNone, option_map, refl, sym, ap, ◌∙◌, arith}
-use Rattle.ltx_model.specs.declared.rows.StoredRow.{StoredRow}
+use Rattle.std.proofs.Common.{◌≡◌, ℕ, ◌+◌, Bool, List, Option, Some, None, IfSome, IfNone, refl, sym, ap, ◌∙◌, arith}
 use Rattle.ltx_model.specs.Keys.{Cell}
 use Rattle.ltx_model.specs.StoredRows.{row_at, writer_at}
 use Rattle.ltx_model.specs.Rows.{rows_between}
@@ -8,21 +7,13 @@ use Rattle.ltx_model.specs.NextKeys.{IsNextKey, HasNoNextKey}
 use Rattle.ltx_index.specs.Pairs.{value_at}
 use Rattle.ltx_chain.specs.declared.chain.Version.{Version}
 use Rattle.ltx_chain.specs.Versions.{latest, visible}
-use Rattle.ltx_store.specs.Kept.{Kept, items_of, versions_at, row_put, row_of_version, rows_at, latest_rows}
+use Rattle.ltx_store.specs.Kept.{Kept, items_of, row_of_version, rows_at, latest_rows}
 use Rattle.ltx_store.specs.Latest.{putter, putter_at, IsNextPut, HasNoNextPut}
 use Rattle.ltx_store.specs.Scans.{between, rows_seen, looks_between, looks_seen}
 use Rattle.ltx_store.proofs.Changes.{row_of_seen}
+use Rattle.ltx_store.proofs.Looks.{writer_of_seen}
 use Rattle.ltx_store.proofs.Places.{Pairs, IsPlace, in_range, chain_in_place, kept_rising}
 use Rattle.ltx_store.proofs.Scans.{rows_between-of_tables, looks_between-of_tables}
-
--- the writer of the row that a version makes
-put_writer : (c : Cell) (writer : ℕ) (p : Option (List ℕ)) → option_map (λ (row : StoredRow). row.writer) (row_put c writer p) ≡ option_map (λ value. writer) p
-put_writer c writer None = refl
-put_writer c writer (Some value) = refl
-
-version_writer : (c : Cell) (v : Option Version) → option_map (λ (row : StoredRow). row.writer) (row_of_version c v) ≡ putter v
-version_writer c None = refl
-version_writer c (Some v) = put_writer c v.writer v.put
 
 module _ {kept : List Kept} {ts : List Pairs} {i n : ℕ} {pairs : Pairs} (p : IsPlace kept ts i n pairs) where
   pub rows_in_place : (low high : List ℕ) (mark : ℕ) → rows_between (rows_at mark kept) n low high ≡ rows_seen mark (between low high pairs)
@@ -40,8 +31,7 @@ module _ {kept : List Kept} {ts : List Pairs} {i n : ℕ} {pairs : Pairs} (p : I
   pub writer_in_place : (key : List ℕ) → writer_at (latest_rows kept) (record { table = n; key = key }) ≡ putter_at pairs key
   writer_in_place key =
       let c : Cell = record { table = n; key = key } in
-      ap (option_map (λ row. row.writer)) (sym (row_of_seen latest refl c kept (kept_rising p)))
-      ∙ version_writer c (latest (versions_at kept c)) ∙ ap (λ o. putter (latest (items_of o))) (chain_in_place p key)
+      writer_of_seen latest refl kept c (kept_rising p) ∙ ap (λ o. putter (latest (items_of o))) (chain_in_place p key)
 
 module _ {kept : List Kept} {ts : List Pairs} {i n : ℕ} {pairs : Pairs} (p : IsPlace kept ts i n pairs) where
   -- the row of a key at a mark, by the version that is seen there

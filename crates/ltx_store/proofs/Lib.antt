@@ -1,5 +1,6 @@
 pub mod Changes
 pub mod InPlace
+pub mod Looks
 pub mod NextPuts
 pub mod Order
 pub mod Pairs
