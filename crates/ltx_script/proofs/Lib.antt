@@ -3,3 +3,5 @@ pub mod Spellings
 pub mod ValueLemmas
 pub mod SetLemmas
 pub mod SetTexts
+pub mod Readings
+pub mod Spelt

@@ -256,3 +256,13 @@ line_from (Err cause) = lines.Bad cause
 -- what a line says
 unfoldable pub line_of : List ℕ → Line
 line_of line = line_from (reading line)
+
+-- a fact of the command of a line, if it has one
+abbrev pub IfGood : Line → (Command → Type 0) → Type 0
+IfGood (lines.Good command) P = P command
+IfGood (lines.Bad cause) P = Unit {0}
+
+-- a fact of the cause of a line that has no command
+abbrev pub IfBad : Line → (Bad → Type 0) → Type 0
+IfBad (lines.Good command) P = Unit {0}
+IfBad (lines.Bad cause) P = P cause

@@ -1,7 +1,10 @@
 //! Reading a line of a script: the command with this spelling, or the first cause why there is none.
 
 ghost use Rattle.std.specs.Prelude.{◌≡◌, ℕ, List, length, Option, IfOk, option_copied};
-ghost use Rattle.ltx_script.specs.Lines.{words_of, words_after, ask_at, command_at, said_at, reading, line_of};
+ghost use Rattle.ltx_model.specs.declared.commands.Command.{Command};
+ghost use Rattle.ltx_model.specs.declared.commands.Line.TheVariants.{Good};
+ghost use Rattle.ltx_script.specs.Commands.{IsCommand, command_text};
+ghost use Rattle.ltx_script.specs.Lines.{words_of, words_after, ask_at, command_at, said_at, reading, line_of, IfGood, IfBad};
 ghost use Rattle.ltx_script.specs.Readers.{Gives};
 
 use crate::arguments::session_of;
@@ -60,6 +63,11 @@ fn read(alloc: Global, line: &[u8]) -> Result<Command, Refusal>
 /// What a line says: the command with this spelling, or the first cause why there is none.
 #[tactic(auto, unfolding(crate::specs::Lines::line_of))]
 pub fn parse_line(alloc: Global, line: &[u8]) -> Result<Line, NoMemory>
+    // What is read is spelt so.
+    ensures found { IfOk result (λ read. IfGood read (λ command. IsCommand command × (line.now ≡ command_text command))) }
+    // What is spelt so is read, so each command has one spelling.
+    ensures again { (command : Command) → IsCommand command → line.now ≡ command_text command → IfOk result (λ read. read ≡ Good command) }
+    // The whole answer is a function of the bytes.
     ensures exact { IfOk result (λ read. read ≡ line_of line.now) }
 {
     match read(alloc, line) {
