@@ -2,6 +2,8 @@ pub mod Numbered
 pub mod FirstPlace
 pub mod Search
 pub mod OwnWrites
+pub mod Ranges
+pub mod Differences
 pub mod Outcomes
 pub mod Views
 pub mod Standing

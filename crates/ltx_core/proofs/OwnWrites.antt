@@ -1,18 +1,19 @@
 -- A transaction's last write of a key: it decides what the transaction sees there, and whether a get looks the key up.
-use Rattle.std.proofs.Common.{◌≡◌, ℕ, Bool, true, false, cond, ◌||◌, List, [], ◌∷◌, ◌++◌, Option, Some, None, is_some, refl, ap, ◌∙◌}
+use Rattle.std.proofs.Common.{◌≡◌, ℕ, Bool, true, false, cond, ◌||◌, List, [], ◌∷◌, ◌++◌, map, Option, Some, None, is_some, refl, ap, ◌∙◌}
 use Rattle.std.specs.List.{list_any}
 use Rattle.ltx_model.specs.declared.commands.Op.{Op}
 use Rattle.ltx_model.specs.declared.commands.Op.TheVariants.{Get, Scan, Put, Del}
-use Rattle.ltx_model.specs.declared.replies.Reply.TheVariants.{Done}
+use Rattle.ltx_model.specs.declared.replies.Reply.TheVariants.{Done, Rows}
 use Rattle.ltx_model.specs.declared.rows.StoredRow.{StoredRow}
 use Rattle.ltx_model.specs.Lists.{or_else}
 use Rattle.ltx_model.specs.Keys.{Cell, same_cell}
 use Rattle.ltx_model.specs.StoredRows.{row_at, writer_at}
 use Rattle.ltx_model.specs.Operations.{writes_at}
-use Rattle.ltx_model.specs.Rows.{rows_after, rows_after_all, found, see}
+use Rattle.ltx_model.specs.Rows.{row_of, rows_after, rows_after_all, found, see}
 use Rattle.ltx_model.proofs.OneMore.{see-is}
 use Rattle.ltx_core.specs.declared.short.Noted.{Noted}
 use Rattle.ltx_core.specs.Notes.{operations_of, last_write, unless_own, look_of}
+use Rattle.ltx_core.specs.Ranges.{rows_in}
 use Rattle.ltx_lemmas.proofs.Cells.{row_at-put, row_at-without}
 
 -- the row of a key after this last write of it
@@ -23,7 +24,7 @@ row_with tx (Some (Scan table low high)) row = None
 row_with tx (Some (Put table key value)) row = Some (record { table = table; key = key; value = value; writer = tx })
 row_with tx (Some (Del table key)) row = None
 
-after_one : (tx : ℕ) (rows : List StoredRow) (op : Op) (q : Cell) → row_at (rows_after tx rows op) q ≡ row_with tx (cond (writes_at q op) (Some op) None) (row_at rows q)
+pub after_one : (tx : ℕ) (rows : List StoredRow) (op : Op) (q : Cell) → row_at (rows_after tx rows op) q ≡ row_with tx (cond (writes_at q op) (Some op) None) (row_at rows q)
 after_one tx rows (Get table key) q = refl
 after_one tx rows (Scan table low high) q = refl
 after_one tx rows (Put table key value) q = row_at-put (record { table = table; key = key; value = value; writer = tx }) rows q ∙ by_test (same_cell (record { table = table; key = key }) q) where
@@ -48,7 +49,7 @@ after_all tx rows (op ∷ ops) q = after_all tx (rows_after tx rows op) ops q �
     ∙ with_twice tx (last_write q ops) (cond (writes_at q op) (Some op) None) (row_at rows q)
 
 -- a key was written where it has a last write
-written : (q : Cell) (ops : List Op) → list_any (writes_at q) ops ≡ is_some (last_write q ops)
+pub written : (q : Cell) (ops : List Op) → list_any (writes_at q) ops ≡ is_some (last_write q ops)
 written q [] = refl
 written q (op ∷ ops) = ap (λ b. writes_at q op || b) (written q ops) ∙ by_test (writes_at q op) (last_write q ops) where
   by_test : (b : Bool) (last : Option Op) → (b || is_some last) ≡ is_some (or_else last (cond b (Some op) None))
@@ -67,6 +68,9 @@ see_put tx rows ops table key value = see-is tx rows ops (Put table key value)
 
 pub see_del : (tx : ℕ) (rows : List StoredRow) (ops : List Op) (table : ℕ) (key : List ℕ) → see tx rows ops (Del table key) ≡ Done
 see_del tx rows ops table key = see-is tx rows ops (Del table key)
+
+pub see_scan : (tx : ℕ) (rows : List StoredRow) (ops : List Op) (table : ℕ) (low high : List ℕ) → see tx rows ops (Scan table low high) ≡ Rows (map row_of (rows_in table low high (rows_after_all tx rows ops)))
+see_scan tx rows ops table low high = see-is tx rows ops (Scan table low high)
 
 pub look_get : (rows : List StoredRow) (ops : List Op) (table : ℕ) (key : List ℕ)
     → look_of rows ops (Get table key) ≡ unless_own (is_some (last_write (record { table = table; key = key }) ops)) (writer_at rows (record { table = table; key = key }))

@@ -85,7 +85,7 @@ sorted_rows (x ∷ xs) rising = (rising.0, sorted_rows xs rising.1)
 
 module _ (rows : List StoredRow) (rising : IsRising cell_of rows) where
   -- the rows before a place are below its row
-  later_above : (i j : ℕ) (d : StoredRow) → i < j → j < length rows → cell_cmp (cell_of (get_or rows j d)) (cell_of (get_or rows i d)) ≡ Greater
+  pub later_above : (i j : ℕ) (d : StoredRow) → i < j → j < length rows → cell_cmp (cell_of (get_or rows j d)) (cell_of (get_or rows i d)) ≡ Greater
   later_above i j d lt within = flipped (cell_of (get_or rows i d)) (cell_of (get_or rows j d)) Less (Less-from_sorted by_cell rows i j d (sorted_rows rows rising) lt within)
 
   never_falls : IsSortedBy (λ a b. is_lt (cell_cmp (cell_of a) (cell_of b))) rows

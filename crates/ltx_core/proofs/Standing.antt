@@ -1,5 +1,5 @@
 -- An outcome is what the state answers, and the core then stands for the state after it.
-use Rattle.std.proofs.Common.{◌≡◌, ℕ, ◌+◌, Bool, true, false, cond, not, ◌==◌, List, [], ◌∷◌, ◌++◌, map, length, Option, Some, None, is_some, IfSome, IfNone, Result, Ok, Err, IfOk, refl, sym, ap, ◌∙◌, subst, nat_le}
+use Rattle.std.proofs.Common.{◌≡◌, ℕ, ◌+◌, Bool, true, false, cond, ◌==◌, List, [], ◌∷◌, ◌++◌, map, length, Option, Some, None, is_some, IfSome, IfNone, Result, Ok, Err, IfOk, refl, sym, ap, ◌∙◌, subst, nat_le}
 use Rattle.std.specs.Option.{option_map}
 use Rattle.std.specs.List.{find, AllByRecursion}
 use Rattle.std.proofs.lemmas.List.{map-append}
@@ -16,7 +16,8 @@ use Rattle.ltx_model.specs.declared.replies.Reply.{Reply}
 use Rattle.ltx_model.specs.declared.replies.Reply.TheVariants as replies
 use Rattle.ltx_model.specs.declared.rows.StoredRow.{StoredRow}
 use Rattle.ltx_model.specs.Lists.{without_first}
-use Rattle.ltx_model.specs.StoredRows.{row_at}
+use Rattle.ltx_model.specs.Keys.{IsRising}
+use Rattle.ltx_model.specs.StoredRows.{cell_of, row_at}
 use Rattle.ltx_model.specs.Operations.{Transaction, operations, table_of}
 use Rattle.ltx_model.specs.Rows.{rows_after_all, reply_on, found, run, see}
 use Rattle.ltx_model.specs.Agenda.{Committed, CommitShort, serial}
@@ -29,13 +30,15 @@ use Rattle.ltx_model.specs.Answers.{commit as state_commit, abort as state_abort
 use Rattle.ltx_model.proofs.OneMore.{after-is, see-is, run-none, run-push, state-none, state-push}
 use Rattle.ltx_lemmas.proofs.Lists.{all_push, all_find, all_without, all_change, without_nothing}
 use Rattle.ltx_lemmas.proofs.Serials.{serial_push}
-use Rattle.ltx_core.specs.Built.{is_scan, built}
-use Rattle.ltx_core.specs.Notes.{ShortView, CoreView, is_session}
+use Rattle.ltx_lemmas.proofs.Rising.{rising_after_all}
+use Rattle.ltx_core.specs.Built.{built}
+use Rattle.ltx_core.specs.Notes.{ShortView, CoreView, is_session, operations_of}
 use Rattle.ltx_core.specs.Places.{IsFirst}
-use Rattle.ltx_core.specs.Outcomes.{Outcome, without_short, outcome, begin, begun_if, operate, operate_unless, done_if, commit, accepted, accepted_unless, abort, advanced_unless, verb_outcome}
+use Rattle.ltx_core.specs.Outcomes.{Outcome, without_short, outcome, begin, begun_if, operate, done_if, commit, accepted, accepted_unless, abort, advanced_unless, verb_outcome}
 use Rattle.ltx_core.specs.Stands.{view_of, IsPlainShort, StandsForState, StandsFor}
 use Rattle.ltx_core.proofs.FirstPlace.{at_place, find_first}
-use Rattle.ltx_core.proofs.Views.{ops_kept, length_kept, find_views, without_views, change_views, no_holder, no_held, kept, changes_kept}
+use Rattle.ltx_core.proofs.Views.{ops_kept, length_kept, find_views, without_views, change_views, no_holder, no_held, changes_kept}
+use Rattle.ltx_core.proofs.Differences.{kept}
 
 -- An outcome at a state: its reply, and the core that it leaves.
 pub record IsStep (s : State) (line : Line) (reply : Reply) (o : Outcome) : Type 0 where
@@ -49,14 +52,16 @@ core_of s = record { rows = latest s; order = order s; active = map view_of s.ac
 pub core_is : (core : CoreView) (s : State) → StandsForState core s → core ≡ core_of s
 core_is core s stands = λ i. record { rows = stands.rows i; order = stands.order i; active = stands.active i; epoch = stands.epoch i; durable = stands.durable i; last = stands.last i }
 
-abbrev Plain : State → Type 0
-Plain s = AllByRecursion IsPlainShort s.active
+-- all open transactions are shorts, and the latest rows stand in order
+record Plain (s : State) : Type 0 where
+  shorts : AllByRecursion IsPlainShort s.active
+  rising : IsRising cell_of (latest s)
 
 stays : (s : State) → Plain s → StandsForState (core_of s) s
-stays s plain = record { rows = refl; order = refl; epoch = refl; durable = refl; last = refl; active = refl; shorts = plain }
+stays s plain = record { rows = refl; rising = plain.rising; order = refl; epoch = refl; durable = refl; last = refl; active = refl; shorts = plain.shorts }
 
 short_kind : (s : State) (session : ℕ) (o : Active) → Plain s → active_of s session ≡ Some o → IsPlainShort o
-short_kind s session o all is = all_find IsPlainShort (is_of session) s.active o all is
+short_kind s session o all is = all_find IsPlainShort (is_of session) s.active o all.shorts is
 
 -- begin
 begun_step : (s : State) (session : ℕ) → Plain s → active_of s session ≡ None → StandsForState (begun_if false (core_of s) session).core (begun s IsShort (s.last + 1) session)
@@ -65,12 +70,13 @@ begun_step s session plain none =
     let same : without_first (is_of session) s.active ≡ s.active = without_nothing (is_of session) s.active none in
     record {
       rows = refl;
+      rising = plain.rising;
       order = refl;
       epoch = refl;
       durable = refl;
       last = refl;
       active = sym (map-append view_of s.active (new ∷ [])) ∙ ap (λ l. map view_of (l ++ new ∷ [])) (sym same);
-      shorts = all_push IsPlainShort (without_first (is_of session) s.active) new (all_without IsPlainShort (is_of session) s.active plain) (record { short = refl; plain = tt });
+      shorts = all_push IsPlainShort (without_first (is_of session) s.active) new (all_without IsPlainShort (is_of session) s.active plain.shorts) (record { short = refl; rising = tt });
     }
 
 begin_step : (s : State) (session : ℕ) (o : Option Active) → Plain s → active_of s session ≡ o
@@ -99,9 +105,9 @@ answers_see s session op tx ops =
     let e = see-is tx (latest s) ops op in
     ap (λ r. answered s op r session) e ∙ answers s session op (rows_after_all tx (latest s) ops) ∙ ap (reply_changes s (done session op)) (sym e)
 
-do_step : (s : State) (session : ℕ) (op : Op) (o : Active) → Plain s → active_of s session ≡ Some o → is_scan op ≡ false
+do_step : (s : State) (session : ℕ) (op : Op) (o : Active) → Plain s → active_of s session ≡ Some o
     → IsStep s (done session op) (counted (is_full (transaction_of o)) (latest s) (transaction_of o) op) (done_if (nat_le 65536 (length (view_of o).notes)) (core_of s) session (view_of o) op)
-do_step s session op o all is plain =
+do_step s session op o all is =
     subst (λ n. IsStep s (done session op) (counted (is_full (transaction_of o)) (latest s) (transaction_of o) op) (done_if (nat_le 65536 n) (core_of s) session (view_of o) op)) (sym (length_kept o))
     (by_test (is_full (transaction_of o))) where
       reply : Reply
@@ -113,13 +119,14 @@ do_step s session op o all is plain =
       stands : StandsForState (done_if false (core_of s) session (view_of o) op).core (answered s op reply session)
       stands = record {
         rows = refl;
+        rising = all.rising;
         order = refl;
         epoch = refl;
         durable = refl;
         last = refl;
         active = change_views session b s.active o is;
         shorts = all_change IsPlainShort IsPlainShort (is_of session) (with_step b) s.active (λ u p. p)
-            (λ u here p. record { short = p.short; plain = all_push (λ d. is_scan d.op ≡ false) u.steps b p.plain plain }) all;
+            (λ u here p. record { short = p.short; rising = all_push (λ d. IsRising cell_of d.latest) u.steps b p.rising all.rising }) all.shorts;
       }
 
       by_test : (t : Bool) → IsStep s (done session op) (counted t (latest s) (transaction_of o) op) (done_if t (core_of s) session (view_of o) op)
@@ -129,25 +136,26 @@ do_step s session op o all is plain =
         stands = subst (StandsForState (done_if false (core_of s) session (view_of o) op).core) (answers_see s session op o.number (operations (transaction_of o))) stands;
       }
 
-operate_step : (s : State) (session : ℕ) (op : Op) (o : Option Active) → Plain s → active_of s session ≡ o → is_scan op ≡ false
+operate_step : (s : State) (session : ℕ) (op : Op) (o : Option Active) → Plain s → active_of s session ≡ o
     → IsStep s (done session op) (operation s o op) (operate (core_of s) session (option_map view_of o) op)
-operate_step s session op None all is plain = record { reply_is = refl; stands = stays s all }
-operate_step s session op (Some o) all is plain =
+operate_step s session op None all is = record { reply_is = refl; stands = stays s all }
+operate_step s session op (Some o) all is =
     let core : Outcome = operate (core_of s) session (Some (view_of o)) op in
     subst (λ k. IsStep s (done session op) (operation_in s k (transaction_of o) op) core) (sym (short_kind s session o all is).short)
-    (subst (λ h. IsStep s (done session op) (operation_of_short s h (transaction_of o) op) core) (sym (no_holder s all (table_of op)))
-    (do_step s session op o all is plain))
+    (subst (λ h. IsStep s (done session op) (operation_of_short s h (transaction_of o) op) core) (sym (no_holder s all.shorts (table_of op)))
+    (do_step s session op o all is))
 
 -- the end of a short
 closed_stands : (s : State) (session : ℕ) → Plain s → StandsForState (without_short (core_of s) session) (closed s session)
 closed_stands s session all = record {
   rows = refl;
+  rising = all.rising;
   order = refl;
   epoch = refl;
   durable = refl;
   last = refl;
   active = without_views session s.active;
-  shorts = all_without IsPlainShort (is_of session) s.active all;
+  shorts = all_without IsPlainShort (is_of session) s.active all.shorts;
 }
 
 ended_stands : (s : State) (session : ℕ) (o : Active) → Plain s → active_of s session ≡ Some o → StandsForState (without_short (core_of s) session) (ended s o session)
@@ -164,12 +172,13 @@ accepted_stands s session o all is =
     sym (ap (map (λ u. u.number)) more ∙ map-append (λ u. u.number) (serial s.agenda) (t ∷ [])) in
     let stands : StandsForState core (moved (closed s session) s.epoch (CommitShort t)) = record {
       rows = now;
+      rising = rising_after_all o.number (latest s) (operations_of (view_of o).notes) all.rising;
       order = numbers;
       epoch = refl;
       durable = refl;
       last = refl;
       active = without_views session s.active;
-      shorts = all_without IsPlainShort (is_of session) s.active all;
+      shorts = all_without IsPlainShort (is_of session) s.active all.shorts;
     } in
     subst (λ k. StandsForState core (moved (closed s session) s.epoch (commit_move k t))) (sym (short_kind s session o all is).short) stands
 
@@ -194,9 +203,9 @@ commit_step s session None all is = record { reply_is = refl; stands = stays s a
 commit_step s session (Some o) all is =
     let core : Outcome = commit (core_of s) session (Some (view_of o)) in
     subst (λ k. IsStep s (commits session) (commit_in s k o) core) (sym (short_kind s session o all is).short)
-    (subst (λ h. IsStep s (commits session) (commit_short s h o) core) (sym (no_held s all (operations (transaction_of o))))
+    (subst (λ h. IsStep s (commits session) (commit_short s h o) core) (sym (no_held s all.shorts (operations (transaction_of o))))
     (subst (λ c. IsStep s (commits session) (checked s (first_change (latest s) o.steps)) (accepted_unless (core_of s) session (view_of o) c))
-    (sym (changes_kept (latest s) o (short_kind s session o all is)))
+    (sym (changes_kept (latest s) o (short_kind s session o all is) all.rising))
     (checked_step s session o all is (first_change (latest s) o.steps))))
 
 -- abort
@@ -222,15 +231,16 @@ no_slots epoch s (o ∷ os) all = ap (λ k. slots_after epoch (slot_after epoch 
 
 advanced_stands : (s : State) → Plain s → StandsForState (advanced_unless false (core_of s)).core (advanced s (s.epoch + 1))
 advanced_stands s all =
-    let same = live_same (serial s.agenda) s.active all in
-    subst (StandsForState (advanced_unless false (core_of s)).core) (sym (no_slots (s.epoch + 1) (in_epoch s (s.epoch + 1)) s.active all)) (record {
+    let same = live_same (serial s.agenda) s.active all.shorts in
+    subst (StandsForState (advanced_unless false (core_of s)).core) (sym (no_slots (s.epoch + 1) (in_epoch s (s.epoch + 1)) s.active all.shorts)) (record {
       rows = refl;
+      rising = all.rising;
       order = refl;
       epoch = refl;
       durable = refl;
       last = refl;
       active = ap (map view_of) (sym same);
-      shorts = subst (AllByRecursion IsPlainShort) (sym same) all;
+      shorts = subst (AllByRecursion IsPlainShort) (sym same) all.shorts;
     })
 
 advance_step : (s : State) (b : Bool) → Plain s → IsStep s (lines.Good commands.Epoch) (state_advance s b) (advanced_unless b (core_of s))
@@ -241,13 +251,6 @@ advance_step s false all = record { reply_is = refl; stands = advanced_stands s 
 later_step : (s : State) (line : Line) → Plain s → IsStep s line replies.Later (record { reply = replies.Later; core = core_of s })
 later_step s line all = record { reply_is = refl; stands = stays s all }
 
-do_verb_step : (s : State) (session : ℕ) (op : Op) (b : Bool) → is_scan op ≡ b → Plain s
-    → IsStep s (done session op) (cond (not b) (operation s (active_of s session) op) replies.Later) (operate_unless b (core_of s) session op)
-do_verb_step s session op true is all = later_step s (done session op) all
-do_verb_step s session op false is all =
-    subst (λ o. IsStep s (done session op) (operation s (active_of s session) op) (operate (core_of s) session o op)) (sym (find_views session s.active))
-    (operate_step s session op (active_of s session) all refl is)
-
 abbrev staged_reply : State → Command → Reply
 staged_reply s command = cond (built s (lines.Good command)) (command_reply s command) replies.Later
 
@@ -255,7 +258,8 @@ verb_step : (s : State) (session : ℕ) (verb : Verb) → Plain s → IsStep s (
 verb_step s session verbs.Short all =
     subst (λ o. IsStep s (lines.Good (commands.Ask session verbs.Short)) (begin_short s (active_of s session)) (begin (core_of s) session o)) (sym (find_views session s.active)) (begin_step s session (active_of s session) all refl)
 verb_step s session (verbs.Long writes reads) all = later_step s (lines.Good (commands.Ask session (verbs.Long writes reads))) all
-verb_step s session (verbs.Do op) all = do_verb_step s session op (is_scan op) refl all
+verb_step s session (verbs.Do op) all =
+    subst (λ o. IsStep s (done session op) (operation s (active_of s session) op) (operate (core_of s) session o op)) (sym (find_views session s.active)) (operate_step s session op (active_of s session) all refl)
 verb_step s session verbs.Commit all =
     subst (λ o. IsStep s (commits session) (state_commit s (active_of s session)) (commit (core_of s) session o)) (sym (find_views session s.active)) (commit_step s session (active_of s session) all refl)
 verb_step s session verbs.Abort all =
@@ -283,7 +287,7 @@ module _ (old new : CoreView) (command : Command) (reply : Reply) (is : ◌≡�
   at_state = is ∙ ap (λ c. outcome c command) (core_is old s stands)
 
   step : IsStep s (lines.Good command) (staged_reply s command) (outcome (core_of s) command)
-  step = command_step s command stands.shorts
+  step = command_step s command (record { shorts = stands.shorts; rising = subst (IsRising cell_of) stands.rows stands.rising })
 
   pub step_reply : reply ≡ staged built (state base history) (lines.Good command)
   step_reply = ap (λ (o : Outcome). o.reply) at_state ∙ step.reply_is ∙ staged_is s command
@@ -298,9 +302,10 @@ module _ (old new : CoreView) (command : Command) (reply : Reply) (is : ◌≡�
       subst (StandsForState new) (sym (state-push (first_state base) history entry ∙ after-is s (lines.Good command) reply)) here
 
 -- a new core
-pub new_stands : (base : Base) (core : CoreView) → core.rows ≡ base.rows → core.order ≡ [] → core.active ≡ [] → core.epoch ≡ base.durable + 1 → core.durable ≡ base.durable → core.last ≡ base.last → StandsFor core base []
-new_stands base core rows order active epoch durable last = subst (StandsForState core) (sym (state-none (first_state base))) (record {
+pub new_stands : (base : Base) (core : CoreView) → IsRising cell_of base.rows → core.rows ≡ base.rows → core.order ≡ [] → core.active ≡ [] → core.epoch ≡ base.durable + 1 → core.durable ≡ base.durable → core.last ≡ base.last → StandsFor core base []
+new_stands base core rising rows order active epoch durable last = subst (StandsForState core) (sym (state-none (first_state base))) (record {
   rows = rows ∙ sym (run-none base.rows);
+  rising = subst (IsRising cell_of) (sym rows) rising;
   order = order;
   epoch = epoch;
   durable = durable;

@@ -9,8 +9,9 @@ use Rattle.ltx_model.specs.Keys.{Cell, IsRising}
 use Rattle.ltx_model.specs.StoredRows.{cell_of, writer_at}
 use Rattle.ltx_model.specs.Operations.{writes_at}
 use Rattle.ltx_core.specs.declared.short.Look.{Look}
-use Rattle.ltx_core.specs.declared.short.Look.TheVariants.{Nothing, Writer}
+use Rattle.ltx_core.specs.declared.short.Look.TheVariants.{Nothing, Writer, Writers}
 use Rattle.ltx_core.specs.declared.short.Noted.{Noted}
+use Rattle.ltx_core.specs.Ranges.{looked_up}
 
 pub record ShortView : Type 0 where
   pub session : ℕ
@@ -57,10 +58,11 @@ abbrev pub unless_own : Bool → Option ℕ → Look
 unless_own true found = Nothing
 unless_own false found = Writer found
 
--- what an operation looks up in the rows, after these earlier operations: a get its key, unless they wrote it
+-- what an operation looks up in the rows, after these earlier operations: a get its key, unless they wrote it,
+-- and a scan the keys of its range that they did not write
 abbrev pub look_of : List StoredRow → List Op → Op → Look
 look_of rows earlier (Get table key) = let cell : Cell = record { table = table; key = key } in unless_own (list_any (writes_at cell) earlier) (writer_at rows cell)
-look_of rows earlier (Scan table low high) = Nothing
+look_of rows earlier (Scan table low high) = Writers (looked_up rows earlier table low high)
 look_of rows earlier (Put table key value) = Nothing
 look_of rows earlier (Del table key) = Nothing
 

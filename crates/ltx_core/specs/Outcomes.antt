@@ -1,6 +1,8 @@
 -- What a command does to what a core keeps.
 use Rattle.std.specs.Prelude.{ℕ, ◌+◌, Bool, true, false, ◌==◌, nat_le, List, [], ◌∷◌, ◌++◌, length, Option, Some, None}
 use Rattle.std.specs.List.{find, remove}
+use Rattle.std.specs.declared.cmp.Ordering.{Ordering}
+use Rattle.std.specs.declared.cmp.Ordering.TheVariants.{Less, Equal, Greater}
 use Rattle.ltx_model.specs.declared.commands.Op.{Op}
 use Rattle.ltx_model.specs.declared.commands.Op.TheVariants.{Get, Scan, Put, Del}
 use Rattle.ltx_model.specs.declared.commands.Verb.{Verb}
@@ -10,15 +12,17 @@ use Rattle.ltx_model.specs.declared.commands.Command.TheVariants as commands
 use Rattle.ltx_model.specs.declared.replies.Reply.{Reply}
 use Rattle.ltx_model.specs.declared.replies.Reply.TheVariants as replies
 use Rattle.ltx_model.specs.declared.rows.StoredRow.{StoredRow}
-use Rattle.ltx_model.specs.Lists.{numbered, first_some, change_first, without_first}
+use Rattle.ltx_model.specs.declared.writes.Look.{Look as KeyLook}
+use Rattle.ltx_model.specs.Lists.{numbered, or_else, first_some, change_first, without_first}
+use Rattle.ltx_model.specs.Keys.{key_cmp}
 use Rattle.ltx_model.specs.StoredRows.{writer_at}
 use Rattle.ltx_model.specs.Rows.{rows_after_all, see}
 use Rattle.ltx_model.specs.Shorts.{same_writer}
 use Rattle.ltx_core.specs.declared.short.Look.{Look}
-use Rattle.ltx_core.specs.declared.short.Look.TheVariants.{Nothing, Writer}
+use Rattle.ltx_core.specs.declared.short.Look.TheVariants.{Nothing, Writer, Writers}
 use Rattle.ltx_core.specs.declared.short.Noted.{Noted}
 use Rattle.ltx_core.specs.declared.change.Change.{Change}
-use Rattle.ltx_core.specs.Built.{is_scan}
+use Rattle.ltx_core.specs.Ranges.{looked_up}
 use Rattle.ltx_core.specs.Notes.{ShortView, CoreView, is_session, operations_of, note_of, with_note}
 
 abbrev pub change_unless : Bool → ℕ → ℕ → List ℕ → Option ℕ → Option ℕ → Option Change
@@ -27,22 +31,44 @@ change_unless false number table key found current = Some (record { op = number;
 
 abbrev pub change_of_key : List StoredRow → ℕ → ℕ → List ℕ → Look → Option Change
 change_of_key now number table key Nothing = None
+change_of_key now number table key (Writers looks) = None
 change_of_key now number table key (Writer found) = let current : Option ℕ = writer_at now (record { table = table; key = key }) in
     change_unless (same_writer found current) number table key found current
 
-abbrev pub change_of_op : List StoredRow → ℕ → Op → Look → Option Change
-change_of_op now number (Get table key) look = change_of_key now number table key look
-change_of_op now number (Scan table low high) look = None
-change_of_op now number (Put table key value) look = None
-change_of_op now number (Del table key) look = None
+abbrev pub change_by : Ordering → ℕ → ℕ → KeyLook → KeyLook → Option Change
+change_by Less number table before now = change_unless false number table before.key (Some before.writer) None
+change_by Equal number table before now = change_unless (before.writer == now.writer) number table before.key (Some before.writer) (Some now.writer)
+change_by Greater number table before now = change_unless false number table now.key None (Some now.writer)
 
--- the operation with this number looked a key up, and the key has another writer now
-abbrev pub change_at : List StoredRow → ℕ → Noted → Option Change
-change_at now number n = change_of_op now number n.op n.look
+-- the lesser of the keys of a look of then and one of now, where these are not alike
+abbrev pub change_between : ℕ → ℕ → KeyLook → KeyLook → Option Change
+change_between number table before now = change_by (key_cmp before.key now.key) number table before now
+
+-- the least key at which looks of then and of now differ, both in the order of their keys
+abbrev pub first_difference : ℕ → ℕ → List KeyLook → List KeyLook → Option Change
+first_difference number table [] [] = None
+first_difference number table (a ∷ as') [] = change_unless false number table a.key (Some a.writer) None
+first_difference number table [] (b ∷ bs) = change_unless false number table b.key None (Some b.writer)
+first_difference number table (a ∷ as') (b ∷ bs) = or_else (change_between number table a b) (first_difference number table as' bs)
+
+abbrev pub change_of_range : List StoredRow → ℕ → List Op → ℕ → List ℕ → List ℕ → Look → Option Change
+change_of_range now number earlier table low high Nothing = None
+change_of_range now number earlier table low high (Writer found) = None
+change_of_range now number earlier table low high (Writers looks) = first_difference number table looks (looked_up now earlier table low high)
+
+abbrev pub change_of_op : List StoredRow → ℕ → List Op → Op → Look → Option Change
+change_of_op now number earlier (Get table key) look = change_of_key now number table key look
+change_of_op now number earlier (Scan table low high) look = change_of_range now number earlier table low high look
+change_of_op now number earlier (Put table key value) look = None
+change_of_op now number earlier (Del table key) look = None
+
+-- the operation with this number, after these earlier ones, looked a key up, and the key has another writer now
+abbrev pub change_at : List StoredRow → ℕ → List Noted → Noted → Option Change
+change_at now number earlier n = change_of_op now number (operations_of earlier) n.op n.look
 
 -- the first change that operations meet in the rows of now
 abbrev pub first_change_of : List StoredRow → List Noted → Option Change
-first_change_of now notes = first_some (λ n. change_at now n.number n.item) (numbered notes)
+first_change_of now notes = first_some (λ n. change_at now n.number n.earlier n.item) (numbered notes)
 
 -- the open short of a session
 abbrev pub short_of : CoreView → ℕ → Option ShortView
@@ -147,14 +173,10 @@ advanced_unless false c = record {
 abbrev pub advance : CoreView → Outcome
 advance c = advanced_unless (c.epoch == 4294967294) c
 
-abbrev pub operate_unless : Bool → CoreView → ℕ → Op → Outcome
-operate_unless true c session op = unchanged c replies.Later
-operate_unless false c session op = operate c session (short_of c session) op
-
 abbrev pub verb_outcome : CoreView → ℕ → Verb → Outcome
 verb_outcome c session verbs.Short = begin c session (short_of c session)
 verb_outcome c session (verbs.Long writes reads) = unchanged c replies.Later
-verb_outcome c session (verbs.Do op) = operate_unless (is_scan op) c session op
+verb_outcome c session (verbs.Do op) = operate c session (short_of c session) op
 verb_outcome c session verbs.Commit = commit c session (short_of c session)
 verb_outcome c session verbs.Abort = abort c session (short_of c session)
 

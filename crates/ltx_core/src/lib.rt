@@ -2,7 +2,10 @@
 #![tactic(auto)]
 
 mod change;
+mod range;
 mod rows;
+mod scan;
+mod see;
 mod short;
 mod step;
 

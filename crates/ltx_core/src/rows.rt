@@ -77,8 +77,8 @@ fn delete_row(rows: &mut Vec<StoredRow>, table: Table, key: &Key)
     }
 }
 
-// What an operation of a transaction leaves.
-fn install_one(rows: &mut Vec<StoredRow>, tx: Tx, op: Op)
+/// What an operation of a transaction leaves, where there is room for the row that it puts.
+pub fn install_one(rows: &mut Vec<StoredRow>, tx: Tx, op: Op)
     requires rising { IsRising cell_of rows.old.items }
     requires room { vec_len rows.old + puts_one op ≤ vec_capacity rows.old }
     ensures rows { rows.new.items ≡ rows_after tx rows.old.items op }

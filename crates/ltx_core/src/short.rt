@@ -1,43 +1,33 @@
 //! An open short transaction: its operations, and the writer that each look-up found.
 
-ghost use Rattle.std.specs.Prelude.{◌≡◌, ◌++◌, ◌∷◌, [], ℕ, ◌<◌, ◌≤◌, OnOk, OnErr, IfOk, length, List, nat_le, false, option_copied};
-ghost use Rattle.ltx_model.specs.Keys.{IsRising};
-ghost use Rattle.ltx_model.specs.StoredRows.{cell_of};
-ghost use Rattle.ltx_model.specs.declared.commands.Op.TheVariants.{Get};
-ghost use Rattle.ltx_model.specs.Rows.{see};
-ghost use Rattle.ltx_core.specs.Built.{is_scan};
-ghost use Rattle.ltx_core.specs.Notes.{operations_of, last_write, look_of};
+ghost use Rattle.std.specs.Prelude.{◌≡◌, ◌++◌, ◌∷◌, [], ℕ, ◌<◌, ◌≤◌, OnOk, OnErr, length, nat_le, option_copied};
+ghost use Rattle.std.specs.List.{list_any};
+ghost use Rattle.ltx_model.specs.Operations.{writes_at};
+ghost use Rattle.ltx_core.specs.Notes.{operations_of, last_write};
 
-use crate::rows::row_of;
 use ltx_model::bytes::Key;
 use ltx_model::commands::Op;
 use ltx_model::memory::NoMemory;
 use ltx_model::numbers::{Session, Table, Tx};
-use ltx_model::replies::Reply;
-use ltx_model::rows::StoredRow;
+use ltx_model::writes::LookList;
 use std::alloc::Global;
 use std::marker::Model;
 
 /// What an operation looked up in the latest rows.
-#[derive(Clone, Copy, Debug, PartialEq, Eq)]
+#[derive(Debug, Drop)]
 pub enum Look {
     /// No key: a write, or a get of a key that the transaction had written before.
     Nothing,
-    /// Its key, with the writer that the key's row had, if it had one.
+    /// The key of a get, with the writer that the key's row had, if it had one.
     Writer(Option<Tx>),
+    /// The keys of a scan that the transaction had not written before: those that had a row, with its writer.
+    Writers(LookList),
 }
 
 /// An operation, and what it looked up.
 #[derive(Debug, Drop)]
 pub struct Noted {
     pub op: Op,
-    pub look: Look,
-}
-
-/// What an operation is answered, and what it looked up.
-#[derive(Debug, Drop)]
-pub struct Seen {
-    pub reply: Reply,
     pub look: Look,
 }
 
@@ -136,58 +126,10 @@ pub fn own_write<'a>(notes: &'a [Noted], table: Table, key: &Key) -> Option<&'a 
     None
 }
 
-// What a get is answered, by the transaction's last write of the key or else by the key's row.
-#[tactic(auto, using(crate::proofs::OwnWrites::see_get, crate::proofs::OwnWrites::look_get))]
-fn see_key(
-    rows: &[StoredRow],
-    tx: Tx,
-    notes: &[Noted],
-    table: Table,
-    key: &Key,
-) -> Result<Seen, NoMemory>
-    requires rising { IsRising cell_of rows.now }
-    ensures reply { IfOk result (λ seen. seen.reply ≡ see tx rows.now (operations_of notes.now) (Get table key.now)) }
-    ensures look { IfOk result (λ seen. seen.look ≡ look_of rows.now (operations_of notes.now) (Get table key.now)) }
+/// Whether one of the operations writes the key.
+#[tactic(auto, using(crate::proofs::OwnWrites::written))]
+pub fn is_written(notes: &[Noted], table: Table, key: &Key) -> bool
+    ensures { result ≡ list_any (writes_at (record { table = table; key = key.now })) (operations_of notes.now) }
 {
-    match own_write(notes, table, key) {
-        Some(Op::Put { value, .. }) => Ok(Seen {
-            reply: Reply::Found {
-                value: value.copy()?,
-            },
-            look: Look::Nothing,
-        }),
-        Some(_) => Ok(Seen {
-            reply: Reply::Absent,
-            look: Look::Nothing,
-        }),
-        None => match row_of(rows, table, key) {
-            Some(row) => Ok(Seen {
-                reply: Reply::Found {
-                    value: row.value.copy()?,
-                },
-                look: Look::Writer(Some(row.writer)),
-            }),
-            None => Ok(Seen {
-                reply: Reply::Absent,
-                look: Look::Writer(None),
-            }),
-        },
-    }
-}
-
-/// What an operation of a transaction is answered, with its own earlier operations over the rows, and what it looks up.
-#[tactic(auto, using(crate::proofs::OwnWrites::see_put, crate::proofs::OwnWrites::see_del))]
-pub fn see(rows: &[StoredRow], tx: Tx, notes: &[Noted], op: &Op) -> Result<Seen, NoMemory>
-    requires rising { IsRising cell_of rows.now }
-    requires plain { is_scan op.now ≡ false }
-    ensures reply { IfOk result (λ seen. seen.reply ≡ see tx rows.now (operations_of notes.now) op.now) }
-    ensures look { IfOk result (λ seen. seen.look ≡ look_of rows.now (operations_of notes.now) op.now) }
-{
-    match op {
-        Op::Get { table, key } => see_key(rows, tx, notes, *table, key),
-        Op::Put { .. } | Op::Del { .. } | Op::Scan { .. } => Ok(Seen {
-            reply: Reply::Done,
-            look: Look::Nothing,
-        }),
-    }
+    own_write(notes, table, key).is_some()
 }

@@ -1,7 +1,7 @@
 //! The core: the state of a run, changed by one command at a time.
 //! It keeps the latest rows, the committed transactions' numbers in order, and each open short with its operations.
 
-ghost use Rattle.std.specs.Prelude.{◌≡◌, ◌≢◌, ◌<◌, ◌≤◌, [], ◌∷◌, ◌++◌, ℕ, List, Option, Some, None, IfSome, IfNone, IfOk, OnOk, OnErr, length, slice_index_or, slice_set, false, is_some};
+ghost use Rattle.std.specs.Prelude.{◌≡◌, ◌≢◌, ◌<◌, ◌≤◌, [], ◌∷◌, ◌++◌, ℕ, List, Option, Some, None, IfSome, IfNone, IsOk, IfOk, OnOk, OnErr, length, slice_index_or, slice_set, true, is_some};
 ghost use Rattle.std.specs.List.{find};
 ghost use Rattle.ltx_model.specs.declared.commands.Command.TheVariants.{Flush};
 ghost use Rattle.ltx_model.specs.declared.commands.Line.TheVariants.{Good};
@@ -12,13 +12,14 @@ ghost use Rattle.ltx_model.specs.Histories.{state};
 ghost use Rattle.ltx_model.specs.Answers.{staged, IsLegalWith};
 ghost use Rattle.ltx_core.specs.Notes.{ShortView, is_session, with_note};
 ghost use Rattle.ltx_core.specs.Places.{IsFirst};
-ghost use Rattle.ltx_core.specs.Built.{is_scan, built};
+ghost use Rattle.ltx_core.specs.Built.{built, is_abort, takes_no_memory};
 ghost use Rattle.ltx_core.specs.Outcomes.{short_of, begin, operate, commit, accepted_at, abort, advance, verb_outcome, outcome};
 ghost use Rattle.ltx_core.specs.Stands.{StandsFor};
 
 use crate::change::{Change, first_change};
 use crate::rows::{install, puts};
-use crate::short::{Noted, Short, see};
+use crate::see::see;
+use crate::short::{Noted, Short};
 use ltx_model::base::Recovered;
 use ltx_model::commands::{Command, Op, Verb};
 use ltx_model::memory::NoMemory;
@@ -112,7 +113,6 @@ impl Core {
 
     // An operation of the session's short: its reply, by its own operations over the latest rows.
     fn operate(&mut self, session: Session, op: &Op) -> Result<Reply, NoMemory>
-        requires plain { is_scan op.now ≡ false }
         ensures ok { IfOk result (λ reply. record { reply = reply; core = self.new } ≡ operate self.old session (short_of self.old session) op.now) }
         ensures err { OnErr result (self.new ≡ self.old) }
     {
@@ -123,7 +123,7 @@ impl Core {
                 if short.is_full() {
                     return Ok(Reply::LimitOps);
                 }
-                let seen = see(&self.rows, short.tx(), short.notes(), op)?;
+                let seen = see(self.alloc, &self.rows, short.tx(), short.notes(), op)?;
                 let noted = Noted {
                     op: op.copy()?,
                     look: seen.look,
@@ -197,16 +197,12 @@ impl Core {
     // What a session asks.
     fn serve(&mut self, session: Session, verb: &Verb) -> Result<Reply, NoMemory>
         ensures ok { IfOk result (λ reply. record { reply = reply; core = self.new } ≡ verb_outcome self.old session verb.now) }
+        ensures ready { is_abort verb.now ≡ true → IsOk result }
         ensures err { OnErr result (self.new ≡ self.old) }
     {
         match verb {
             Verb::Short => self.begin(session),
-            Verb::Do(op) => {
-                if matches!(op, Op::Scan { .. }) {
-                    return Ok(Reply::Later);
-                }
-                self.operate(session, op)
-            }
+            Verb::Do(op) => self.operate(session, op),
             Verb::Commit => self.commit(session),
             Verb::Abort => Ok(self.abort(session)),
             Verb::Long { .. } => Ok(Reply::Later),
@@ -216,6 +212,7 @@ impl Core {
     // A command: its reply and what it leaves, by what the core keeps alone.
     fn apply(&mut self, command: &Command) -> Result<Reply, NoMemory>
         ensures ok { IfOk result (λ reply. record { reply = reply; core = self.new } ≡ outcome self.old command.now) }
+        ensures ready { takes_no_memory command.now ≡ true → IsOk result }
         ensures err { OnErr result (self.new ≡ self.old) }
     {
         match command {
@@ -246,13 +243,14 @@ impl Core {
 
     /// One command, which is not `flush`. The reply is the answer of the state that the base and the history lead to,
     /// and the core then stands for the history with this entry. What is not built yet is answered `later`.
-    /// After `NoMemory` the core is as before.
+    /// The next epoch and an abort take no memory. After `NoMemory` the core is as before.
     pub fn step(&mut self, command: &Command) -> Result<Reply, NoMemory>
         requires not_flush { command.now ≢ Flush }
         ensures reply { IfOk result (λ reply. (base : Base) (history : List Entry) → IsSound base → IsLegalWith built base history → StandsFor self.old base history
             → reply ≡ staged built (state base history) (Good command.now)) }
         ensures stands { IfOk result (λ reply. (base : Base) (history : List Entry) → IsSound base → IsLegalWith built base history → StandsFor self.old base history
             → StandsFor self.new base (history ++ record { line = Good command.now; reply = reply } ∷ [])) }
+        ensures ready { takes_no_memory command.now ≡ true → IsOk result }
         ensures kept { OnErr result (self.new ≡ self.old) }
     {
         self.apply(command)

@@ -5,4 +5,4 @@ use Rattle.ltx_core.proofs.change.first_change.Given as goal
 
 -- the operations from this one on meet the first change
 abbrev pub invariant-loop-place : goal.invariant-loop-place
-invariant-loop-place l = first_some (λ n. change_at l.rows n.number n.item) (numbered_from (l.place + 1) (take l.place l.notes) (drop l.place l.notes)) ≡ first_change_of l.rows l.notes
+invariant-loop-place l = first_some (λ n. change_at l.rows n.number n.earlier n.item) (numbered_from (l.place + 1) (take l.place l.notes) (drop l.place l.notes)) ≡ first_change_of l.rows l.notes
