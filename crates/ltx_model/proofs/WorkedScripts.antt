@@ -1,5 +1,5 @@
 -- Scripts whose answers are known, computed by the checker from the definitions.
-use Rattle.std.proofs.Common.{◌≡◌, ℕ, List, [], ◌∷◌, refl, map, Some, None}
+use Rattle.std.proofs.Common.{◌≡◌, ℕ, List, [], ◌∷◌, refl, map, Some, None, take, reverse}
 use Rattle.ltx_model.specs.declared.commands.Op.TheVariants.{Get, Scan, Put, Del}
 use Rattle.ltx_model.specs.declared.commands.Verb.{Verb}
 use Rattle.ltx_model.specs.declared.commands.Verb.TheVariants as verbs
@@ -9,12 +9,13 @@ use Rattle.ltx_model.specs.declared.commands.Line.TheVariants as lines
 use Rattle.ltx_model.specs.declared.replies.Reply.{Reply}
 use Rattle.ltx_model.specs.declared.replies.Reply.TheVariants as replies
 use Rattle.ltx_model.specs.States.{Base, first_state, order}
-use Rattle.ltx_model.specs.Rows.{run, see}
+use Rattle.ltx_model.specs.Rows.{run, see, RunGives}
 use Rattle.ltx_model.specs.Shorts.{first_change}
 use Rattle.ltx_model.specs.Batches.{target, first_late, first_contradicted}
-use Rattle.ltx_model.specs.Frames.{sealed, body_length}
+use Rattle.ltx_model.specs.Frames.{SlotEvent, BatchEvent, sealed, body_length}
 use Rattle.ltx_model.specs.Histories.{after, state_from, state}
 use Rattle.ltx_model.specs.Answers.{everything, answer, entries_from}
+use Rattle.ltx_model.specs.Explained.{committed_in, committed_from}
 
 -- an empty log, one whose last epoch has come, and one whose last number was given
 abbrev blank : Base
@@ -26,6 +27,15 @@ at_last_epoch = record { rows = []; durable = 4294967293; last = 0; gate = 38 }
 abbrev at_last_number : Base
 at_last_number = record { rows = []; durable = 1; last = 9223372036854775807; gate = 47 }
 
+abbrev at_both_limits : Base
+at_both_limits = record { rows = []; durable = 4294967293; last = 9223372036854775807; gate = 38 }
+
+abbrev before_last_number : Base
+before_last_number = record { rows = []; durable = 4294967293; last = 9223372036854775806; gate = 38 }
+
+abbrev with_gate : ℕ → Base
+with_gate gate = record { rows = []; durable = 0; last = 0; gate = gate }
+
 abbrev asks : ℕ → Verb → Line
 asks session verb = lines.Good (Ask session verb)
 
@@ -34,6 +44,9 @@ replies_to base ls = map (λ e. e.reply) (entries_from everything (first_state b
 
 abbrev order_after : Base → List Line → List ℕ
 order_after base ls = order (state base (entries_from everything (first_state base) ls))
+
+abbrev gate_after : Base → List Line → ℕ
+gate_after base ls = (state base (entries_from everything (first_state base) ls)).gate
 
 -- a read sees a commit
 abbrev read_sees_commit : List Line
@@ -702,3 +715,601 @@ deletion_keeps_its_witness_replies = refl
 deletion_keeps_its_witness_order : order_after blank deletion_keeps_its_witness ≡ 1 ∷ 2 ∷ 3 ∷ []
 unfolding entries_from answer after state_from run see first_change target first_late first_contradicted sealed body_length
 deletion_keeps_its_witness_order = refl
+
+-- a batch that looked into no preserved table overtakes nobody
+abbrev area_alone_overtakes_nobody : List Line
+area_alone_overtakes_nobody =
+    asks 1 (verbs.Long 1 18446744073709551615) ∷
+    asks 2 (verbs.Long 2 18446744073709551615) ∷
+    lines.Good Epoch ∷
+    asks 2 (verbs.Do (Get 5 (120 ∷ []))) ∷
+    asks 2 (verbs.Do (Put 1 (120 ∷ []) (98 ∷ []))) ∷
+    asks 2 verbs.Commit ∷
+    asks 1 verbs.Commit ∷ []
+
+area_alone_overtakes_nobody_replies : replies_to blank area_alone_overtakes_nobody ≡
+    replies.BegunAt 1 2 ∷
+    replies.BegunAt 2 2 ∷
+    replies.Advanced 2 ∷
+    replies.Absent ∷
+    replies.Done ∷
+    replies.Committed 2 ∷
+    replies.Committed 2 ∷ []
+unfolding entries_from answer after state_from run see first_change target first_late first_contradicted sealed body_length
+area_alone_overtakes_nobody_replies = refl
+
+area_alone_overtakes_nobody_order : order_after blank area_alone_overtakes_nobody ≡ 1 ∷ 2 ∷ []
+unfolding entries_from answer after state_from run see first_change target first_late first_contradicted sealed body_length
+area_alone_overtakes_nobody_order = refl
+
+-- a committed writer from the place on hides a later reader
+abbrev written_reader_is_hidden : List Line
+written_reader_is_hidden =
+    asks 1 (verbs.Long 1 4) ∷
+    lines.Good Epoch ∷
+    asks 2 verbs.Short ∷
+    asks 2 (verbs.Do (Put 1 (120 ∷ []) (115 ∷ []))) ∷
+    asks 2 verbs.Commit ∷
+    asks 3 verbs.Short ∷
+    asks 3 (verbs.Do (Get 1 (120 ∷ []))) ∷
+    asks 3 verbs.Commit ∷
+    asks 2 (verbs.Long 2 18446744073709551615) ∷
+    lines.Good Epoch ∷
+    asks 2 (verbs.Do (Get 0 (121 ∷ []))) ∷
+    asks 2 (verbs.Do (Put 1 (120 ∷ []) (98 ∷ []))) ∷
+    asks 2 verbs.Commit ∷
+    asks 1 verbs.Commit ∷ []
+
+written_reader_is_hidden_replies : replies_to blank written_reader_is_hidden ≡
+    replies.BegunAt 1 2 ∷
+    replies.Advanced 2 ∷
+    replies.Begun 2 ∷
+    replies.Done ∷
+    replies.Committed 2 ∷
+    replies.Begun 3 ∷
+    replies.Found (115 ∷ []) ∷
+    replies.Committed 2 ∷
+    replies.BegunAt 4 3 ∷
+    replies.Advanced 3 ∷
+    replies.Absent ∷
+    replies.Done ∷
+    replies.CommittedBefore 3 1 ∷
+    replies.Committed 3 ∷ []
+unfolding entries_from answer after state_from run see first_change target first_late first_contradicted sealed body_length
+written_reader_is_hidden_replies = refl
+
+written_reader_is_hidden_order : order_after blank written_reader_is_hidden ≡ 4 ∷ 1 ∷ 2 ∷ 3 ∷ []
+unfolding entries_from answer after state_from run see first_change target first_late first_contradicted sealed body_length
+written_reader_is_hidden_order = refl
+
+-- a reader of the snapshot is contradicted, by the first write of the key
+abbrev reader_in_the_snapshot : List Line
+reader_in_the_snapshot =
+    asks 4 verbs.Short ∷
+    asks 4 (verbs.Do (Put 1 (120 ∷ []) (114 ∷ []))) ∷
+    asks 4 verbs.Commit ∷
+    asks 1 (verbs.Long 1 18446744073709551615) ∷
+    lines.Good Epoch ∷
+    asks 2 verbs.Short ∷
+    asks 2 (verbs.Do (Get 1 (120 ∷ []))) ∷
+    asks 2 verbs.Commit ∷
+    asks 3 verbs.Short ∷
+    asks 3 (verbs.Do (Get 1 (120 ∷ []))) ∷
+    asks 3 (verbs.Do (Put 1 (120 ∷ []) (115 ∷ []))) ∷
+    asks 3 verbs.Commit ∷
+    asks 2 (verbs.Long 2 18446744073709551615) ∷
+    lines.Good Epoch ∷
+    asks 2 (verbs.Do (Get 0 (121 ∷ []))) ∷
+    asks 2 (verbs.Do (Put 1 (120 ∷ []) (98 ∷ []))) ∷
+    asks 2 (verbs.Do (Put 1 (120 ∷ []) (99 ∷ []))) ∷
+    asks 2 verbs.Commit ∷
+    asks 1 (verbs.Do (Put 0 (121 ∷ []) (97 ∷ []))) ∷
+    asks 1 verbs.Commit ∷
+    asks 2 verbs.Commit ∷ []
+
+reader_in_the_snapshot_replies : replies_to blank reader_in_the_snapshot ≡
+    replies.Begun 1 ∷
+    replies.Done ∷
+    replies.Committed 1 ∷
+    replies.BegunAt 2 2 ∷
+    replies.Advanced 2 ∷
+    replies.Begun 3 ∷
+    replies.Found (114 ∷ []) ∷
+    replies.Committed 2 ∷
+    replies.Begun 4 ∷
+    replies.Found (114 ∷ []) ∷
+    replies.Done ∷
+    replies.Committed 2 ∷
+    replies.BegunAt 5 3 ∷
+    replies.Advanced 3 ∷
+    replies.Absent ∷
+    replies.Done ∷
+    replies.Done ∷
+    replies.Waiting 2 ∷
+    replies.Done ∷
+    replies.Committed 3 ∷
+    replies.Contradicts 2 2 1 (120 ∷ []) 3 ∷ []
+unfolding entries_from answer after state_from run see first_change target first_late first_contradicted sealed body_length
+reader_in_the_snapshot_replies = refl
+
+reader_in_the_snapshot_order : order_after blank reader_in_the_snapshot ≡ 1 ∷ 2 ∷ 3 ∷ 4 ∷ []
+unfolding entries_from answer after state_from run see first_change target first_late first_contradicted sealed body_length
+reader_in_the_snapshot_order = refl
+
+-- the least elder that may still read is waited for
+abbrev least_elder_is_waited_for : List Line
+least_elder_is_waited_for =
+    asks 1 (verbs.Long 1 18446744073709551615) ∷
+    asks 2 (verbs.Long 2 18446744073709551615) ∷
+    asks 3 (verbs.Long 4 18446744073709551615) ∷
+    lines.Good Epoch ∷
+    asks 3 (verbs.Do (Get 0 (121 ∷ []))) ∷
+    asks 3 (verbs.Do (Get 1 (121 ∷ []))) ∷
+    asks 3 (verbs.Do (Put 2 (122 ∷ []) (99 ∷ []))) ∷
+    asks 3 verbs.Commit ∷ []
+
+least_elder_is_waited_for_replies : replies_to blank least_elder_is_waited_for ≡
+    replies.BegunAt 1 2 ∷
+    replies.BegunAt 2 2 ∷
+    replies.BegunAt 3 2 ∷
+    replies.Advanced 2 ∷
+    replies.Absent ∷
+    replies.Absent ∷
+    replies.Done ∷
+    replies.Waiting 1 ∷ []
+unfolding entries_from answer after state_from run see first_change target first_late first_contradicted sealed body_length
+least_elder_is_waited_for_replies = refl
+
+least_elder_is_waited_for_order : order_after blank least_elder_is_waited_for ≡ []
+unfolding entries_from answer after state_from run see first_change target first_late first_contradicted sealed body_length
+least_elder_is_waited_for_order = refl
+
+-- where a witness stands, the least overtaken live batch is waited for
+abbrev waits_for_the_overtaken : List Line
+waits_for_the_overtaken =
+    asks 1 (verbs.Long 1 18446744073709551615) ∷
+    asks 2 (verbs.Long 2 18446744073709551615) ∷
+    asks 4 (verbs.Long 64 18446744073709551615) ∷
+    lines.Good Epoch ∷
+    asks 3 verbs.Short ∷
+    asks 3 (verbs.Do (Put 5 (120 ∷ []) (118 ∷ []))) ∷
+    asks 3 verbs.Commit ∷
+    asks 3 (verbs.Long 4 18446744073709551615) ∷
+    lines.Good Epoch ∷
+    asks 3 (verbs.Do (Get 5 (120 ∷ []))) ∷
+    asks 3 (verbs.Do (Get 1 (121 ∷ []))) ∷
+    asks 3 (verbs.Do (Get 6 (121 ∷ []))) ∷
+    asks 3 verbs.Commit ∷ []
+
+waits_for_the_overtaken_replies : replies_to blank waits_for_the_overtaken ≡
+    replies.BegunAt 1 2 ∷
+    replies.BegunAt 2 2 ∷
+    replies.BegunAt 3 2 ∷
+    replies.Advanced 2 ∷
+    replies.Begun 4 ∷
+    replies.Done ∷
+    replies.Committed 2 ∷
+    replies.BegunAt 5 3 ∷
+    replies.Advanced 3 ∷
+    replies.Found (118 ∷ []) ∷
+    replies.Absent ∷
+    replies.Absent ∷
+    replies.Waiting 2 ∷ []
+unfolding entries_from answer after state_from run see first_change target first_late first_contradicted sealed body_length
+waits_for_the_overtaken_replies = refl
+
+waits_for_the_overtaken_order : order_after blank waits_for_the_overtaken ≡ 4 ∷ []
+unfolding entries_from answer after state_from run see first_change target first_late first_contradicted sealed body_length
+waits_for_the_overtaken_order = refl
+
+-- the late key of the least operation, and its last writer in the snapshot
+abbrev first_late_key : List Line
+first_late_key =
+    asks 1 (verbs.Long 1 18446744073709551615) ∷
+    lines.Good Epoch ∷
+    asks 2 verbs.Short ∷
+    asks 2 (verbs.Do (Put 5 (121 ∷ []) (117 ∷ []))) ∷
+    asks 2 (verbs.Do (Put 5 (120 ∷ []) (117 ∷ []))) ∷
+    asks 2 verbs.Commit ∷
+    asks 2 verbs.Short ∷
+    asks 2 (verbs.Do (Put 5 (121 ∷ []) (118 ∷ []))) ∷
+    asks 2 verbs.Commit ∷
+    asks 2 (verbs.Long 2 18446744073709551615) ∷
+    lines.Good Epoch ∷
+    asks 2 (verbs.Do (Scan 5 (121 ∷ []) [])) ∷
+    asks 2 (verbs.Do (Get 5 (120 ∷ []))) ∷
+    asks 2 (verbs.Do (Get 0 (121 ∷ []))) ∷
+    asks 2 (verbs.Do (Put 1 (120 ∷ []) (119 ∷ []))) ∷
+    asks 3 (verbs.Long 0 2) ∷
+    lines.Good Epoch ∷
+    asks 1 (verbs.Do (Put 0 (121 ∷ []) (97 ∷ []))) ∷
+    asks 1 verbs.Commit ∷
+    asks 2 verbs.Commit ∷ []
+
+first_late_key_replies : replies_to blank first_late_key ≡
+    replies.BegunAt 1 2 ∷
+    replies.Advanced 2 ∷
+    replies.Begun 2 ∷
+    replies.Done ∷
+    replies.Done ∷
+    replies.Committed 2 ∷
+    replies.Begun 3 ∷
+    replies.Done ∷
+    replies.Committed 2 ∷
+    replies.BegunAt 4 3 ∷
+    replies.Advanced 3 ∷
+    replies.Rows (record { key = (121 ∷ []); value = (118 ∷ []) } ∷ []) ∷
+    replies.Found (117 ∷ []) ∷
+    replies.Absent ∷
+    replies.Done ∷
+    replies.BegunAt 5 4 ∷
+    replies.Advanced 4 ∷
+    replies.Done ∷
+    replies.Committed 4 ∷
+    replies.Late 1 1 5 (121 ∷ []) 3 ∷ []
+unfolding entries_from answer after state_from run see first_change target first_late first_contradicted sealed body_length
+first_late_key_replies = refl
+
+first_late_key_order : order_after blank first_late_key ≡ 1 ∷ 2 ∷ 3 ∷ []
+unfolding entries_from answer after state_from run see first_change target first_late first_contradicted sealed body_length
+first_late_key_order = refl
+
+-- who committed before the slot is not overtaken
+abbrev committed_before_the_slot : List Line
+committed_before_the_slot =
+    asks 1 (verbs.Long 4 1) ∷
+    lines.Good Epoch ∷
+    asks 1 (verbs.Do (Put 2 (121 ∷ []) (98 ∷ []))) ∷
+    asks 1 verbs.Commit ∷
+    asks 2 (verbs.Long 1 18446744073709551615) ∷
+    lines.Good Epoch ∷
+    asks 2 (verbs.Do (Get 2 (121 ∷ []))) ∷
+    asks 2 verbs.Commit ∷ []
+
+committed_before_the_slot_replies : replies_to blank committed_before_the_slot ≡
+    replies.BegunAt 1 2 ∷
+    replies.Advanced 2 ∷
+    replies.Done ∷
+    replies.Committed 2 ∷
+    replies.BegunAt 2 3 ∷
+    replies.Advanced 3 ∷
+    replies.Found (98 ∷ []) ∷
+    replies.Committed 3 ∷ []
+unfolding entries_from answer after state_from run see first_change target first_late first_contradicted sealed body_length
+committed_before_the_slot_replies = refl
+
+committed_before_the_slot_order : order_after blank committed_before_the_slot ≡ 1 ∷ 2 ∷ []
+unfolding entries_from answer after state_from run see first_change target first_late first_contradicted sealed body_length
+committed_before_the_slot_order = refl
+
+-- a get of an own write is no look
+abbrev own_write_is_no_look : List Line
+own_write_is_no_look =
+    asks 1 (verbs.Long 1 18446744073709551615) ∷
+    asks 2 (verbs.Long 1 18446744073709551615) ∷
+    lines.Good Epoch ∷
+    asks 2 (verbs.Do (Put 0 (120 ∷ []) (97 ∷ []))) ∷
+    asks 2 (verbs.Do (Get 0 (120 ∷ []))) ∷
+    asks 2 verbs.Commit ∷
+    asks 1 verbs.Commit ∷ []
+
+own_write_is_no_look_replies : replies_to blank own_write_is_no_look ≡
+    replies.BegunAt 1 2 ∷
+    replies.BegunAt 2 2 ∷
+    replies.Advanced 2 ∷
+    replies.Done ∷
+    replies.Found (97 ∷ []) ∷
+    replies.Committed 2 ∷
+    replies.Committed 2 ∷ []
+unfolding entries_from answer after state_from run see first_change target first_late first_contradicted sealed body_length
+own_write_is_no_look_replies = refl
+
+own_write_is_no_look_order : order_after blank own_write_is_no_look ≡ 1 ∷ 2 ∷ []
+unfolding entries_from answer after state_from run see first_change target first_late first_contradicted sealed body_length
+own_write_is_no_look_order = refl
+
+-- the target is the overtaken member that stands earliest
+abbrev earliest_in_the_agenda : List Line
+earliest_in_the_agenda =
+    asks 1 (verbs.Long 1 512) ∷
+    asks 2 (verbs.Long 2 1) ∷
+    asks 3 (verbs.Long 4 18446744073709551615) ∷
+    lines.Good Epoch ∷
+    asks 2 (verbs.Do (Get 0 (121 ∷ []))) ∷
+    asks 2 (verbs.Do (Put 1 (120 ∷ []) (98 ∷ []))) ∷
+    asks 3 (verbs.Do (Get 1 (120 ∷ []))) ∷
+    asks 3 (verbs.Do (Get 0 (122 ∷ []))) ∷
+    asks 2 verbs.Commit ∷
+    asks 3 verbs.Commit ∷
+    asks 1 verbs.Commit ∷ []
+
+earliest_in_the_agenda_replies : replies_to blank earliest_in_the_agenda ≡
+    replies.BegunAt 1 2 ∷
+    replies.BegunAt 2 2 ∷
+    replies.BegunAt 3 2 ∷
+    replies.Advanced 2 ∷
+    replies.Absent ∷
+    replies.Done ∷
+    replies.Absent ∷
+    replies.Absent ∷
+    replies.CommittedBefore 2 1 ∷
+    replies.CommittedBefore 2 2 ∷
+    replies.Committed 2 ∷ []
+unfolding entries_from answer after state_from run see first_change target first_late first_contradicted sealed body_length
+earliest_in_the_agenda_replies = refl
+
+earliest_in_the_agenda_order : order_after blank earliest_in_the_agenda ≡ 3 ∷ 2 ∷ 1 ∷ []
+unfolding entries_from answer after state_from run see first_change target first_late first_contradicted sealed body_length
+earliest_in_the_agenda_order = refl
+
+-- a held table is named before a change
+abbrev preserved_before_changed : List Line
+preserved_before_changed =
+    asks 1 verbs.Short ∷
+    asks 1 (verbs.Do (Get 0 (120 ∷ []))) ∷
+    asks 2 verbs.Short ∷
+    asks 2 (verbs.Do (Put 0 (120 ∷ []) (97 ∷ []))) ∷
+    asks 2 verbs.Commit ∷
+    asks 2 (verbs.Long 1 18446744073709551615) ∷
+    lines.Good Epoch ∷
+    asks 1 verbs.Commit ∷ []
+
+preserved_before_changed_replies : replies_to blank preserved_before_changed ≡
+    replies.Begun 1 ∷
+    replies.Absent ∷
+    replies.Begun 2 ∷
+    replies.Done ∷
+    replies.Committed 1 ∷
+    replies.BegunAt 3 2 ∷
+    replies.Advanced 2 ∷
+    replies.Preserved 0 3 ∷ []
+unfolding entries_from answer after state_from run see first_change target first_late first_contradicted sealed body_length
+preserved_before_changed_replies = refl
+
+preserved_before_changed_order : order_after blank preserved_before_changed ≡ 2 ∷ []
+unfolding entries_from answer after state_from run see first_change target first_late first_contradicted sealed body_length
+preserved_before_changed_order = refl
+
+-- the least held table, and its least holder
+abbrev least_table_least_holder : List Line
+least_table_least_holder =
+    asks 1 verbs.Short ∷
+    asks 1 (verbs.Do (Get 1 (120 ∷ []))) ∷
+    asks 1 (verbs.Do (Get 0 (120 ∷ []))) ∷
+    asks 2 (verbs.Long 3 18446744073709551615) ∷
+    asks 3 (verbs.Long 1 18446744073709551615) ∷
+    lines.Good Epoch ∷
+    asks 1 verbs.Commit ∷
+    asks 4 verbs.Short ∷
+    asks 4 (verbs.Do (Get 0 (120 ∷ []))) ∷ []
+
+least_table_least_holder_replies : replies_to blank least_table_least_holder ≡
+    replies.Begun 1 ∷
+    replies.Absent ∷
+    replies.Absent ∷
+    replies.BegunAt 2 2 ∷
+    replies.BegunAt 3 2 ∷
+    replies.Advanced 2 ∷
+    replies.Preserved 0 2 ∷
+    replies.Begun 4 ∷
+    replies.Preserved 0 2 ∷ []
+unfolding entries_from answer after state_from run see first_change target first_late first_contradicted sealed body_length
+least_table_least_holder_replies = refl
+
+least_table_least_holder_order : order_after blank least_table_least_holder ≡ []
+unfolding entries_from answer after state_from run see first_change target first_late first_contradicted sealed body_length
+least_table_least_holder_order = refl
+
+-- a flush without commits writes a frame
+abbrev empty_frame : List Line
+empty_frame =
+    asks 1 (verbs.Long 1 18446744073709551615) ∷
+    lines.Good Epoch ∷
+    lines.Good Flush ∷ []
+
+empty_frame_replies : replies_to blank empty_frame ≡
+    replies.BegunAt 1 2 ∷
+    replies.Advanced 2 ∷
+    replies.Durable 1 ∷ []
+unfolding entries_from answer after state_from run see first_change target first_late first_contradicted sealed body_length
+empty_frame_replies = refl
+
+empty_frame_order : order_after blank empty_frame ≡ []
+unfolding entries_from answer after state_from run see first_change target first_late first_contradicted sealed body_length
+empty_frame_order = refl
+
+empty_frame_gate : gate_after blank empty_frame ≡ 38
+unfolding entries_from answer after state_from run see first_change target first_late first_contradicted sealed body_length
+empty_frame_gate = refl
+
+-- an elder before the place is not waited for
+abbrev elder_before_the_place : List Line
+elder_before_the_place =
+    asks 1 (verbs.Long 512 4) ∷
+    asks 2 (verbs.Long 1 512) ∷
+    asks 3 (verbs.Long 4 1) ∷
+    lines.Good Epoch ∷
+    asks 3 (verbs.Do (Get 0 (121 ∷ []))) ∷
+    asks 3 (verbs.Do (Put 2 (122 ∷ []) (99 ∷ []))) ∷
+    asks 3 verbs.Commit ∷ []
+
+elder_before_the_place_replies : replies_to blank elder_before_the_place ≡
+    replies.BegunAt 1 2 ∷
+    replies.BegunAt 2 2 ∷
+    replies.BegunAt 3 2 ∷
+    replies.Advanced 2 ∷
+    replies.Absent ∷
+    replies.Done ∷
+    replies.CommittedBefore 2 2 ∷ []
+unfolding entries_from answer after state_from run see first_change target first_late first_contradicted sealed body_length
+elder_before_the_place_replies = refl
+
+elder_before_the_place_order : order_after blank elder_before_the_place ≡ 3 ∷ []
+unfolding entries_from answer after state_from run see first_change target first_late first_contradicted sealed body_length
+elder_before_the_place_order = refl
+
+-- an elder that is not overtaken is waited for
+abbrev elder_that_is_not_overtaken : List Line
+elder_that_is_not_overtaken =
+    asks 1 (verbs.Long 1 512) ∷
+    asks 2 (verbs.Long 512 2) ∷
+    asks 3 (verbs.Long 2 1) ∷
+    lines.Good Epoch ∷
+    asks 3 (verbs.Do (Get 0 (121 ∷ []))) ∷
+    asks 3 (verbs.Do (Put 1 (120 ∷ []) (98 ∷ []))) ∷
+    asks 3 verbs.Commit ∷ []
+
+elder_that_is_not_overtaken_replies : replies_to blank elder_that_is_not_overtaken ≡
+    replies.BegunAt 1 2 ∷
+    replies.BegunAt 2 2 ∷
+    replies.BegunAt 3 2 ∷
+    replies.Advanced 2 ∷
+    replies.Absent ∷
+    replies.Done ∷
+    replies.Waiting 2 ∷ []
+unfolding entries_from answer after state_from run see first_change target first_late first_contradicted sealed body_length
+elder_that_is_not_overtaken_replies = refl
+
+elder_that_is_not_overtaken_order : order_after blank elder_that_is_not_overtaken ≡ []
+unfolding entries_from answer after state_from run see first_change target first_late first_contradicted sealed body_length
+elder_that_is_not_overtaken_order = refl
+
+-- a batch sees its snapshot, and not the latest rows
+abbrev snapshot_not_latest : List Line
+snapshot_not_latest =
+    asks 1 (verbs.Long 0 18446744073709551615) ∷
+    lines.Good Epoch ∷
+    asks 2 verbs.Short ∷
+    asks 2 (verbs.Do (Put 2 (120 ∷ []) (97 ∷ []))) ∷
+    asks 2 verbs.Commit ∷
+    asks 1 (verbs.Do (Get 2 (120 ∷ []))) ∷ []
+
+snapshot_not_latest_replies : replies_to blank snapshot_not_latest ≡
+    replies.BegunAt 1 2 ∷
+    replies.Advanced 2 ∷
+    replies.Begun 2 ∷
+    replies.Done ∷
+    replies.Committed 2 ∷
+    replies.Absent ∷ []
+unfolding entries_from answer after state_from run see first_change target first_late first_contradicted sealed body_length
+snapshot_not_latest_replies = refl
+
+snapshot_not_latest_order : order_after blank snapshot_not_latest ≡ 2 ∷ []
+unfolding entries_from answer after state_from run see first_change target first_late first_contradicted sealed body_length
+snapshot_not_latest_order = refl
+
+-- a late witness is named before a contradicted one
+abbrev late_before_contradicts : List Line
+late_before_contradicts =
+    asks 4 verbs.Short ∷
+    asks 4 (verbs.Do (Get 1 (122 ∷ []))) ∷
+    asks 4 verbs.Commit ∷
+    asks 1 (verbs.Long 1 18446744073709551615) ∷
+    lines.Good Epoch ∷
+    asks 2 verbs.Short ∷
+    asks 2 (verbs.Do (Put 5 (120 ∷ []) (118 ∷ []))) ∷
+    asks 2 (verbs.Do (Get 1 (122 ∷ []))) ∷
+    asks 2 verbs.Commit ∷
+    asks 2 (verbs.Long 2 18446744073709551615) ∷
+    lines.Good Epoch ∷
+    asks 2 (verbs.Do (Put 1 (122 ∷ []) (119 ∷ []))) ∷
+    asks 2 (verbs.Do (Get 5 (120 ∷ []))) ∷
+    asks 2 (verbs.Do (Get 0 (121 ∷ []))) ∷
+    asks 1 (verbs.Do (Put 0 (121 ∷ []) (97 ∷ []))) ∷
+    asks 1 verbs.Commit ∷
+    asks 2 verbs.Commit ∷ []
+
+late_before_contradicts_replies : replies_to blank late_before_contradicts ≡
+    replies.Begun 1 ∷
+    replies.Absent ∷
+    replies.Committed 1 ∷
+    replies.BegunAt 2 2 ∷
+    replies.Advanced 2 ∷
+    replies.Begun 3 ∷
+    replies.Done ∷
+    replies.Absent ∷
+    replies.Committed 2 ∷
+    replies.BegunAt 4 3 ∷
+    replies.Advanced 3 ∷
+    replies.Done ∷
+    replies.Found (118 ∷ []) ∷
+    replies.Absent ∷
+    replies.Done ∷
+    replies.Committed 3 ∷
+    replies.Late 2 2 5 (120 ∷ []) 3 ∷ []
+unfolding entries_from answer after state_from run see first_change target first_late first_contradicted sealed body_length
+late_before_contradicts_replies = refl
+
+late_before_contradicts_order : order_after blank late_before_contradicts ≡ 1 ∷ 2 ∷ 3 ∷ []
+unfolding entries_from answer after state_from run see first_change target first_late first_contradicted sealed body_length
+late_before_contradicts_order = refl
+
+-- the limit of epochs is named before that of numbers
+abbrev both_limits : List Line
+both_limits =
+    asks 1 (verbs.Long 0 18446744073709551615) ∷
+    asks 1 verbs.Short ∷ []
+
+both_limits_replies : replies_to at_both_limits both_limits ≡
+    replies.LimitEpoch ∷
+    replies.LimitTx ∷ []
+unfolding entries_from answer after state_from run see first_change target first_late first_contradicted sealed body_length
+both_limits_replies = refl
+
+both_limits_order : order_after at_both_limits both_limits ≡ []
+unfolding entries_from answer after state_from run see first_change target first_late first_contradicted sealed body_length
+both_limits_order = refl
+
+-- an open transaction is named before the limits
+abbrev hastx_first : List Line
+hastx_first =
+    asks 1 verbs.Short ∷
+    asks 1 verbs.Short ∷
+    asks 1 (verbs.Long 0 18446744073709551615) ∷ []
+
+hastx_first_replies : replies_to before_last_number hastx_first ≡
+    replies.Begun 9223372036854775807 ∷
+    replies.HasTx ∷
+    replies.HasTx ∷ []
+unfolding entries_from answer after state_from run see first_change target first_late first_contradicted sealed body_length
+hastx_first_replies = refl
+
+hastx_first_order : order_after before_last_number hastx_first ≡ []
+unfolding entries_from answer after state_from run see first_change target first_late first_contradicted sealed body_length
+hastx_first_order = refl
+
+-- the log's closed gate after frames of known lengths
+younger_is_forwarded_gate : gate_after blank younger_is_forwarded ≡ 114
+unfolding entries_from answer after state_from run see first_change target first_late first_contradicted sealed body_length
+younger_is_forwarded_gate = refl
+
+closed_epochs_become_durable_gate : gate_after blank closed_epochs_become_durable ≡ 107
+unfolding entries_from answer after state_from run see first_change target first_late first_contradicted sealed body_length
+closed_epochs_become_durable_gate = refl
+
+-- a flush fits the log to the byte, and is one byte too long
+abbrev flush_once : List Line
+flush_once = lines.Good Epoch ∷ lines.Good Flush ∷ []
+
+fits_the_log : replies_to (with_gate 1099511627754) flush_once ≡ replies.Advanced 2 ∷ replies.Durable 1 ∷ []
+unfolding entries_from answer after state_from run see first_change target first_late first_contradicted sealed body_length
+fits_the_log = refl
+
+passes_the_log : replies_to (with_gate 1099511627755) flush_once ≡ replies.Advanced 2 ∷ replies.LimitLog ∷ []
+unfolding entries_from answer after state_from run see first_change target first_late first_contradicted sealed body_length
+passes_the_log = refl
+
+-- the frame of the flush after a forwarded batch: its events in time
+forwarded_frame : sealed (state blank (take 10 (entries_from everything (first_state blank) younger_is_forwarded))) ≡ record {
+  epoch = 2;
+  events = SlotEvent 1 ∷ SlotEvent 2 ∷ BatchEvent 2 2 (Some 1) (record { table = 1; key = 120 ∷ []; put = Some (98 ∷ []) } ∷ []) ∷ BatchEvent 1 2 None (record { table = 0; key = 121 ∷ []; put = Some (97 ∷ []) } ∷ []) ∷ [];
+}
+unfolding entries_from answer after state_from run see first_change target first_late first_contradicted sealed body_length
+forwarded_frame = refl
+
+-- run in the order of their numbers, the two batches do not get the replies that they were given
+numbers_do_not_explain : RunGives [] (reverse (committed_in (entries_from everything (first_state blank) younger_is_forwarded))) → ⊥
+unfolding entries_from answer after state_from run see first_change target first_late first_contradicted sealed body_length RunGives committed_from
+numbers_do_not_explain gives =
+    let replies : replies.Found (97 ∷ []) ∷ replies.Done ∷ [] ≡ replies.Absent ∷ replies.Done ∷ [] = gives.1.0 in
+    let no : ⊥ = cc in no
