@@ -47,11 +47,11 @@ answer_commit s session o d snapshot is kind = rw is (rw kind refl)
 
 -- a batch without a target is committed at home
 pub home_reply : (built : State → Line → Bool) (s : State) (entry : Entry) (o : Active) (d : Declaration) (snapshot : List Transaction) → entry.reply ≡ staged built s entry.line → AsksCommit s entry o → o.kind ≡ IsLive d snapshot
-    → target s (batch_of o d snapshot) ≡ None → IsCommittedAtHome s entry.reply
-home_reply built s entry o d snapshot is c kind none = by_built (built s entry.line) is where
-  by_built : (b : Bool) → entry.reply ≡ (if b then answer s entry.line else replies.Later) → IsCommittedAtHome s entry.reply
-  by_built true e = inl (e ∙ ap (answer s) c.line ∙ answer_commit s c.session o d snapshot c.opened kind ∙ ap (commit_live s (batch_of o d snapshot)) none)
-  by_built false e = inr e
+    → target s (batch_of o d snapshot) ≡ None → IsCommittedAtHome built s entry
+home_reply built s entry o d snapshot is c kind none = by_built (built s entry.line) refl is where
+  by_built : (b : Bool) → built s entry.line ≡ b → entry.reply ≡ (if b then answer s entry.line else replies.Later) → IsCommittedAtHome built s entry
+  by_built true f e = inl (e ∙ ap (answer s) c.line ∙ answer_commit s c.session o d snapshot c.opened kind ∙ ap (commit_live s (batch_of o d snapshot)) none)
+  by_built false f e = inr (f, e)
 
 -- whoever the function finds overtaken is overtaken
 pub overtakes_is : (s : State) (i : LiveBatch) (m : Member) → Contains s.agenda m → overtakes s i m ≡ true → Overtakes s i (number_of m)
@@ -95,7 +95,7 @@ nobody_no_target s i nobody = by_target (target s i) refl where
   by_target (Some p) e = let found = target_found s i p e in absurd (nobody (number_of found.0) (overtakes_is s i found.0 (find_contains (overtakes s i) s.agenda found.0 found.1) (find_passes (overtakes s i) s.agenda found.0 found.1)))
 
 pub overtakes_nobody : (built : State → Line → Bool) (base : Base) (history : List Entry) (entry : Entry) → IsSound base → IsLegalWith built base (history ++ entry ∷ []) → (o : Active) (d : Declaration) (snapshot : List Transaction)
-    → AsksCommit (state base history) entry o → o.kind ≡ IsLive d snapshot → ((j : ℕ) → Overtakes (state base history) (batch_of o d snapshot) j → ⊥) → IsCommittedAtHome (state base history) entry.reply
+    → AsksCommit (state base history) entry o → o.kind ≡ IsLive d snapshot → ((j : ℕ) → Overtakes (state base history) (batch_of o d snapshot) j → ⊥) → IsCommittedAtHome built (state base history) entry
 overtakes_nobody built base history entry sound legal o d snapshot c kind nobody = home_reply built (state base history) entry o d snapshot (entry_is built base history [] entry sound legal) c kind (nobody_no_target (state base history) (batch_of o d snapshot) nobody)
 
 -- a batch looks keys up in its area alone
@@ -207,7 +207,7 @@ was_least_from built base history n legal w =
     subst (IsLeastFrom n) (sym joined) done
 
 pub least_commits : (built : State → Line → Bool) (base : Base) (history : List Entry) (entry : Entry) → IsSound base → IsLegalWith built base (history ++ entry ∷ []) → (o : Active) (d : Declaration) (snapshot : List Transaction)
-    → AsksCommit (state base history) entry o → o.kind ≡ IsLive d snapshot → WasLeast base history o.number → IsCommittedAtHome (state base history) entry.reply
+    → AsksCommit (state base history) entry o → o.kind ≡ IsLive d snapshot → WasLeast base history o.number → IsCommittedAtHome built (state base history) entry
 least_commits built base history entry sound legal o d snapshot c kind w =
     let before : IsLegalWith built base history = before_legal built base history [] entry sound legal in
     home_reply built (state base history) entry o d snapshot (entry_is built base history [] entry sound legal) c kind

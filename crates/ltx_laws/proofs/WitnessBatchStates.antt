@@ -1,8 +1,7 @@
 -- The witnesses of batches in the states of legal histories.
-use Rattle.std.proofs.Common.{◌≡◌, ℕ, Bool, List, true, Some, None}
+use Rattle.std.proofs.Common.{◌≡◌, ℕ, Bool, List, Some, None}
 use Rattle.ltx_model.specs.declared.commands.Line.{Line}
 use Rattle.ltx_model.specs.declared.replies.Entry.{Entry}
-use Rattle.ltx_model.specs.Agenda.{is_member}
 use Rattle.ltx_model.specs.States.{Base, IsSound, State, LiveBatch}
 use Rattle.ltx_model.specs.Histories.{state}
 use Rattle.ltx_model.specs.Answers.{IsLegalWith}
@@ -11,7 +10,7 @@ use Rattle.ltx_laws.proofs.LiveStates.{structured}
 use Rattle.ltx_laws.proofs.FirstLate.{first_late_is, none_late}
 use Rattle.ltx_laws.proofs.FirstContradicted.{first_contradicted_is, none_contradicted}
 use Rattle.ltx_laws.proofs.WaitsFor.{apart, target_is, waits_is, no_witness_stands}
-use Rattle.ltx_laws.proofs.WitnessBatches.{no_target, target_found_is, first_late_found, first_contradicted_found, waits_found}
+use Rattle.ltx_laws.proofs.WitnessBatches.{none_overtaken, target_found_is, first_late_found, first_contradicted_found, waits_found}
 
 module _ (built : State → Line → Bool) (base : Base) (history : List Entry) (sound : IsSound base) (legal : IsLegalWith built base history) (i : LiveBatch) where
   pub target_given : (p : ℕ) → target (state base history) i ≡ Some p → IsTarget (state base history) i p
@@ -20,8 +19,8 @@ module _ (built : State → Line → Bool) (base : Base) (history : List Entry) 
   pub target_found : (p : ℕ) → IsTarget (state base history) i p → target (state base history) i ≡ Some p
   target_found = target_found_is base (state base history) (structured built base history sound legal) i
 
-  pub target_nowhere : target (state base history) i ≡ None → (p : ℕ) → Overtakes (state base history) i p → is_member (state base history).agenda p ≡ true → ⊥
-  target_nowhere = no_target base (state base history) (structured built base history sound legal) i
+  pub target_nowhere : target (state base history) i ≡ None → (p : ℕ) → Overtakes (state base history) i p → ⊥
+  target_nowhere = none_overtaken base (state base history) (structured built base history sound legal) i
 
   pub late_given : (p : ℕ) (w : Witness) → first_late (state base history) i p ≡ Some w → IsFirstLate (state base history) i p w
   late_given p = first_late_is (state base history) i p

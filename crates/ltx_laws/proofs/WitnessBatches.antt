@@ -9,6 +9,7 @@ use Rattle.ltx_laws.specs.Structure.{Structure}
 use Rattle.ltx_lemmas.proofs.Lists.{some_same, none_some, true_false, any_item, any_contains, find_not, from_contains}
 use Rattle.ltx_lemmas.proofs.Members.{same_number}
 use Rattle.ltx_laws.proofs.Targets.{target_none}
+use Rattle.ltx_laws.proofs.LiveStates.{open_batch, batch_stands}
 use Rattle.ltx_laws.proofs.Unread.{serial_member}
 use Rattle.ltx_laws.proofs.FirstLate.{first_late_is, none_late}
 use Rattle.ltx_laws.proofs.FirstContradicted.{first_contradicted_is, none_contradicted}
@@ -34,6 +35,15 @@ module _ (base : Base) (s : State) (inv : Structure base s) (i : LiveBatch) wher
       let at = any_item (has_number p) s.agenda member in
       true_false (sym (overtakes_from base s inv i p over at.0 at.1 (Rattle.std.proofs.lemmas.Bool.eqb-true (number_of at.0) p at.2))
       ∙ find_not (overtakes s i) s.agenda at.0 (target_none s i none) at.1)
+
+  -- whoever is overtaken is a member: a commit by its record, and a live batch at its slot
+  overtaken_member : (p : ℕ) → Overtakes s i p → is_member s.agenda p ≡ true
+  overtaken_member p (inl h) = any_contains (has_number p) s.agenda (Committed h.tx) (serial_member s.agenda h.tx h.member) (subst (λ n. (n == p) ≡ true) (sym h.number) (same_number p))
+  overtaken_member p (inr h) = subst (λ n. is_member s.agenda n ≡ true) h.number (batch_stands base s inv h.batch (open_batch s h.batch h.live)).member
+
+  -- with no target nobody is overtaken
+  pub none_overtaken : target s i ≡ None → (p : ℕ) → Overtakes s i p → ⊥
+  none_overtaken none p over = no_target none p over (overtaken_member p over)
 
   pub target_once : (p q : ℕ) → IsTarget s i p → IsTarget s i q → p ≡ q
   target_once p q h g = one_place s.agenda p q h.member g.member (h.first q g.overtaken) (g.first p h.overtaken)

@@ -1,10 +1,10 @@
 -- When the commit of a batch is asked, who was the least live batch, and what it is answered.
-use Rattle.std.specs.Prelude.{◌≡◌, ◌⊎◌, ℕ, ◌≤◌, List, [], ◌∷◌, ◌++◌, Some, Contains}
+use Rattle.std.specs.Prelude.{◌≡◌, ◌⊎◌, ℕ, ◌≤◌, Bool, false, List, [], ◌∷◌, ◌++◌, Some, Contains}
 use Rattle.ltx_model.specs.declared.commands.Verb.TheVariants as verbs
 use Rattle.ltx_model.specs.declared.commands.Command.TheVariants as commands
+use Rattle.ltx_model.specs.declared.commands.Line.{Line}
 use Rattle.ltx_model.specs.declared.commands.Line.TheVariants as lines
 use Rattle.ltx_model.specs.declared.replies.Entry.{Entry}
-use Rattle.ltx_model.specs.declared.replies.Reply.{Reply}
 use Rattle.ltx_model.specs.declared.replies.Reply.TheVariants as replies
 use Rattle.ltx_model.specs.Operations.{Transaction}
 use Rattle.ltx_model.specs.States.{Declaration, IsPending, Active, transaction_of, Base, State, LiveBatch, live_batches, active_of}
@@ -20,9 +20,9 @@ pub record AsksCommit (s : State) (entry : Entry) (o : Active) : Type 0 where
   pub line : entry.line ≡ lines.Good (commands.Ask session verbs.Commit)
   pub opened : active_of s session ≡ Some o
 
--- Committed at its slot: not refused, not waiting and not forwarded. (A line that is not built yet is answered `later`.)
-abbrev pub IsCommittedAtHome : State → Reply → Type 0
-IsCommittedAtHome s reply = (reply ≡ replies.Committed s.epoch) ⊎ (reply ≡ replies.Later)
+-- Committed at its slot: not refused, not waiting and not forwarded. (Only a line that is not built yet is answered `later`.)
+abbrev pub IsCommittedAtHome : (State → Line → Bool) → State → Entry → Type 0
+IsCommittedAtHome built s entry = (entry.reply ≡ replies.Committed s.epoch) ⊎ ((built s entry.line ≡ false) × (entry.reply ≡ replies.Later))
 
 -- The batch n was the least live one when it became live, batches of the same advance counted: it was pending before an entry of
 -- the history, live after it, and no batch that was live after it has a smaller number.

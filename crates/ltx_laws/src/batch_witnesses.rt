@@ -1,17 +1,16 @@
 //! The target of a live batch, the witnesses at its place, and whom it waits for: what the functions of the definitions compute
 //! is what the relations say, both ways.
 
-ghost use Rattle.std.specs.Prelude.{◌≡◌, ℕ, Bool, true, List, Some, None};
+ghost use Rattle.std.specs.Prelude.{◌≡◌, ℕ, Bool, List, Some, None};
 ghost use Rattle.ltx_model.specs.declared.commands.Line.{Line};
 ghost use Rattle.ltx_model.specs.declared.replies.Entry.{Entry};
-ghost use Rattle.ltx_model.specs.Agenda.{is_member};
 ghost use Rattle.ltx_model.specs.States.{Base, IsSound, State, LiveBatch};
 ghost use Rattle.ltx_model.specs.Histories.{state};
 ghost use Rattle.ltx_model.specs.Answers.{IsLegalWith};
 ghost use Rattle.ltx_model.specs.Batches.{target, Overtakes, IsTarget, first_late, IsLate, IsFirstLate, first_contradicted, IsContradicted, IsFirstContradicted, Witness, first_witness, HasWitness, waits, Waits};
 
-/// The target of a batch is overtaken, and nothing that is overtaken stands before it; there is none exactly where no member of
-/// the agenda is overtaken.
+/// The target of a batch is overtaken, and nothing that is overtaken stands before it; there is none exactly where nothing is
+/// overtaken.
 pub fn target_is_the_earliest()
     ensures given { (built : State → Line → Bool) (base : Base) (history : List Entry) → IsSound base
         → IsLegalWith built base history → (i : LiveBatch) (p : ℕ)
@@ -21,8 +20,7 @@ pub fn target_is_the_earliest()
         → IsTarget (state base history) i p → target (state base history) i ≡ Some p }
     ensures none { (built : State → Line → Bool) (base : Base) (history : List Entry) → IsSound base
         → IsLegalWith built base history → (i : LiveBatch)
-        → target (state base history) i ≡ None
-        → (p : ℕ) → Overtakes (state base history) i p → is_member (state base history).agenda p ≡ true → ⊥ }
+        → target (state base history) i ≡ None → (p : ℕ) → Overtakes (state base history) i p → ⊥ }
 {}
 
 /// The first late witness is late, and no other has a lesser operation, or the same one and a lesser key; there is none exactly

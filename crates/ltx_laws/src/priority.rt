@@ -17,7 +17,7 @@ pub fn batch_that_overtakes_nobody_commits()
         → (o : Active) (d : Declaration) (snapshot : List Transaction) → AsksCommit (state base history) entry o
         → o.kind ≡ IsLive d snapshot
         → ((j : ℕ) → Overtakes (state base history) (batch_of o d snapshot) j → ⊥)
-        → IsCommittedAtHome (state base history) entry.reply }
+        → IsCommittedAtHome built (state base history) entry }
 {}
 
 /// A batch that was the least live one when it became live, batches of the same advance counted, is never refused, never waits
@@ -27,5 +27,5 @@ pub fn least_batch_commits()
         → IsLegalWith built base (history ++ entry ∷ [])
         → (o : Active) (d : Declaration) (snapshot : List Transaction) → AsksCommit (state base history) entry o
         → o.kind ≡ IsLive d snapshot → WasLeast base history o.number
-        → IsCommittedAtHome (state base history) entry.reply }
+        → IsCommittedAtHome built (state base history) entry }
 {}
