@@ -12,6 +12,7 @@ pub mod PlacesByCommit
 pub mod Preserved
 pub mod Priorities
 pub mod Refused
+pub mod RefusedShorts
 pub mod Snapshots
 pub mod Spared
 pub mod Standing
