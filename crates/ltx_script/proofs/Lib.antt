@@ -5,3 +5,4 @@ pub mod SetLemmas
 pub mod SetTexts
 pub mod Readings
 pub mod Spelt
+pub mod Refused

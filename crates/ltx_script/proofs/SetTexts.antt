@@ -208,7 +208,7 @@ all_named text no_star no_dash are = no_set text (λ set fits is.
     let at : all_tables ≡ set = sym (named_set all_tables text (omega arith) are) ∙ named_set set text fits (plain_set text set no_star no_dash is) in
     no_star (is ∙ ap set_text (sym at) ∙ all_text))
 
-cut_is_some : (byte : ℕ) (text : List ℕ) → cut_at byte text ≢ []
+pub cut_is_some : (byte : ℕ) (text : List ℕ) → cut_at byte text ≢ []
 unfolding cut_at
 cut_is_some byte [] e = absurd cc
 cut_is_some byte (b ∷ text) e = by (b == byte) (slice_split (λ c. c == byte) text) e

@@ -89,25 +89,25 @@ marked_word first set visible = word_true (first ∷ 61 ∷ set_text set) (omega
 
 -- ---- arguments
 
-table_again : (table : ℕ) → table < 64 → table_at (decimal_of table) ≡ Ok table
+pub table_again : (table : ℕ) → table < 64 → table_at (decimal_of table) ≡ Ok table
 table_again table low = rw (number_some (decimal_of table) 0 64 table (omega arith) (omega (arith, low)) (omega arith) refl) refl
 
-session_again : (session : ℕ) → 0 < session → session ≤ 1024 → session_at (decimal_of session) ≡ Ok session
+pub session_again : (session : ℕ) → 0 < session → session ≤ 1024 → session_at (decimal_of session) ≡ Ok session
 session_again session some low = rw (number_some (decimal_of session) 1 1024 session (omega (arith, some)) (omega (arith, low)) (omega arith) refl) refl
 
-key_again : (key : List ℕ) → IsKey key → key_at (word_of key) ≡ Ok key
+pub key_again : (key : List ℕ) → IsKey key → key_at (word_of key) ≡ Ok key
 key_again key is = key_some (word_of key) key (bytes_again (word_of key) key is.bytes refl) is.some is.short
 
-bound_again : (bound : List ℕ) → IsBound bound → bound_at (word_of bound) ≡ Ok bound
+pub bound_again : (bound : List ℕ) → IsBound bound → bound_at (word_of bound) ≡ Ok bound
 bound_again bound is = bound_some (word_of bound) bound (bytes_again (word_of bound) bound is.bytes refl) is.short
 
-value_again : (value : List ℕ) → IsValue value → value_at (word_of value) ≡ Ok value
+pub value_again : (value : List ℕ) → IsValue value → value_at (word_of value) ≡ Ok value
 value_again value is = value_some (word_of value) value (bytes_again (word_of value) value is.bytes refl) is.short
 
-writes_again : (set : ℕ) → set < 2 ^ 64 → writes_at (writes_word set) ≡ Ok set
+pub writes_again : (set : ℕ) → set < 2 ^ 64 → writes_at (writes_word set) ≡ Ok set
 writes_again set fits = rw (set_again set (set_text set) fits refl) refl
 
-reads_again : (set : ℕ) → set < 2 ^ 64 → (set == all_tables) ≡ false → reads_at (Some (codes "R=" ++ set_text set)) ≡ Ok set
+pub reads_again : (set : ℕ) → set < 2 ^ 64 → (set == all_tables) ≡ false → reads_at (Some (codes "R=" ++ set_text set)) ≡ Ok set
 reads_again set fits other = rw (set_again set (set_text set) fits refl, other) refl
 
 -- ---- verbs

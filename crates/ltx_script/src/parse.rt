@@ -4,6 +4,7 @@ ghost use Rattle.std.specs.Prelude.{◌≡◌, ℕ, List, length, Option, IfOk, 
 ghost use Rattle.ltx_model.specs.declared.commands.Command.{Command};
 ghost use Rattle.ltx_model.specs.declared.commands.Line.TheVariants.{Good};
 ghost use Rattle.ltx_script.specs.Commands.{IsCommand, command_text};
+ghost use Rattle.ltx_script.specs.Causes.{IsCause};
 ghost use Rattle.ltx_script.specs.Lines.{words_of, words_after, ask_at, command_at, said_at, reading, line_of, IfGood, IfBad};
 ghost use Rattle.ltx_script.specs.Readers.{Gives};
 
@@ -65,6 +66,8 @@ fn read(alloc: Global, line: &[u8]) -> Result<Command, Refusal>
 pub fn parse_line(alloc: Global, line: &[u8]) -> Result<Line, NoMemory>
     // What is read is spelt so.
     ensures found { IfOk result (λ read. IfGood read (λ command. IsCommand command × (line.now ≡ command_text command))) }
+    // What is refused is no spelling, and has the first cause that applies.
+    ensures cause { IfOk result (λ read. IfBad read (λ cause. IsCause line.now cause)) }
     // What is spelt so is read, so each command has one spelling.
     ensures again { (command : Command) → IsCommand command → line.now ≡ command_text command → IfOk result (λ read. read ≡ Good command) }
     // The whole answer is a function of the bytes.
