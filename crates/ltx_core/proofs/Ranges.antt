@@ -19,7 +19,7 @@ use Rattle.ltx_model.specs.Operations.{writes_at}
 use Rattle.ltx_model.specs.Rows.{rows_after, rows_after_all}
 use Rattle.ltx_core.specs.declared.short.Noted.{Noted}
 use Rattle.ltx_core.specs.Notes.{operations_of}
-use Rattle.ltx_core.specs.Ranges.{in_scan, is_below, is_before, writes_in, rows_in, rows_after_in, is_unwritten, look_at, looks_among}
+use Rattle.ltx_core.specs.Ranges.{in_scan, is_below, is_before, writes_in, rows_in, rows_after_in, is_unwritten, look_at, looks_among, looked_up}
 use Rattle.ltx_core.proofs.Search.{later_above}
 use Rattle.ltx_core.proofs.OwnWrites.{after_one, row_with}
 use Rattle.ltx_lemmas.proofs.Cells.{cell_total, flip_greater, row_at-filter, same_cell_same}
@@ -149,13 +149,47 @@ writes_at_in table low high (Scan t l h) q e = cc
 writes_at_in table low high (Put t key value) q e = ap (in_scan table low high) (same_cell_same (record { table = t; key = key }) q e)
 writes_at_in table low high (Del t key) q e = ap (in_scan table low high) (same_cell_same (record { table = t; key = key }) q e)
 
+-- an operation that writes no key of the range writes none of its keys
+unwritten_in : (table : ℕ) (low high : List ℕ) (op : Op) (q : Cell) → writes_in table low high op ≡ false → in_scan table low high q ≡ true → writes_at q op ≡ false
+unwritten_in table low high op q out within = by_test (writes_at q op) refl where
+  by_test : (b : Bool) → writes_at q op ≡ b → writes_at q op ≡ false
+  by_test false is = is
+  by_test true is = absurd (let none : ⊥ = both_ways (writes_in table low high op) out (writes_at_in table low high op q is ∙ within) in none)
+
+-- and a scan of the range looks up the same without it
+pub look_past : (table : ℕ) (low high : List ℕ) (op : Op) (ops : List Op) → writes_in table low high op ≡ false → (rows : List StoredRow) → looked_up rows ops table low high ≡ looked_up rows (op ∷ ops) table low high
+look_past table low high op ops out [] = refl
+look_past table low high op ops out (x ∷ xs) = by_test (in_scan table low high (cell_of x)) refl (look_past table low high op ops out xs) where
+  left : List Op → List StoredRow
+  left l = filter (λ row. is_unwritten l (cell_of row)) (rows_in table low high xs)
+
+  by_test : (b : Bool) → in_scan table low high (cell_of x) ≡ b → map look_at (left ops) ≡ map look_at (left (op ∷ ops))
+      → looks_among ops (cond b (x ∷ rows_in table low high xs) (rows_in table low high xs)) ≡ looks_among (op ∷ ops) (cond b (x ∷ rows_in table low high xs) (rows_in table low high xs))
+  by_test false is rest = rest
+  by_test true is rest = by_own (list_any (writes_at (cell_of x)) ops) ∙ ap (λ w. map look_at (cond (not (w || list_any (writes_at (cell_of x)) ops)) (x ∷ left (op ∷ ops)) (left (op ∷ ops)))) (sym (unwritten_in table low high op (cell_of x) out is)) where
+    by_own : (a : Bool) → map look_at (cond (not a) (x ∷ left ops) (left ops)) ≡ map look_at (cond (not a) (x ∷ left (op ∷ ops)) (left (op ∷ ops)))
+    by_own true = rest
+    by_own false = ap (λ l. look_at x ∷ l) rest
+
+one_more : (i : ℕ) → suc i ≡ i + 1
+one_more i = omega arith
+
+past_place : (table : ℕ) (low high : List ℕ) (notes : List Noted) (i : ℕ) (n : Noted) → i < length notes → n ≡ get_or notes i n → writes_in table low high n.op ≡ false
+    → (rows : List StoredRow) → looked_up rows (operations_of (drop (suc i) notes)) table low high ≡ looked_up rows (operations_of (drop i notes)) table low high
+past_place table low high [] i n within is out rows = absurd (omega (arith, within))
+past_place table low high (x ∷ xs) zero n within is out rows = look_past table low high x.op (operations_of xs) (subst (λ (m : Noted). writes_in table low high m.op ≡ false) is out) rows
+past_place table low high (x ∷ xs) (suc i) n within is out rows = past_place table low high xs i n (omega (arith, within)) is out rows
+
+-- without an operation at a place that writes no key of the range it looks up the same
+pub look_past_place : (table : ℕ) (low high : List ℕ) (notes : List Noted) (i : ℕ) (n : Noted) → i < length notes → n ≡ get_or notes i n → writes_in table low high n.op ≡ false
+    → (rows : List StoredRow) → looked_up rows (operations_of (drop (i + 1) notes)) table low high ≡ looked_up rows (operations_of (drop i notes)) table low high
+look_past_place table low high notes i n within is out rows =
+    ap (λ k. looked_up rows (operations_of (drop k notes)) table low high) (sym (one_more i)) ∙ past_place table low high notes i n within is out rows
+
 ops_next : (notes : List Noted) (i : ℕ) (n : Noted) → i < length notes → n ≡ get_or notes i n → operations_of (take (suc i) notes) ≡ operations_of (take i notes) ++ n.op ∷ []
 ops_next [] i n within is = absurd (omega (arith, within))
 ops_next (x ∷ xs) zero n within is = ap (λ (m : Noted). m.op ∷ []) (sym is)
 ops_next (x ∷ xs) (suc i) n within is = ap (λ l. x.op ∷ l) (ops_next xs i n (omega (arith, within)) is)
-
-one_more : (i : ℕ) → suc i ≡ i + 1
-one_more i = omega arith
 
 -- the looks among one row more
 looks_more : (ops : List Op) (xs : List StoredRow) (i : ℕ) (x : StoredRow) → i < length xs → x ≡ get_or xs i x
@@ -194,12 +228,6 @@ module _ (tx table : ℕ) (low high : List ℕ) where
     written : Cell → Option Op
     written q = cond (writes_at q op) (Some op) None
 
-    no_write : (q : Cell) → writes_in table low high op ≡ false → in_scan table low high q ≡ true → writes_at q op ≡ false
-    no_write q out within = by_test (writes_at q op) refl where
-      by_test : (b : Bool) → writes_at q op ≡ b → writes_at q op ≡ false
-      by_test false is = is
-      by_test true is = absurd (let no_one : ⊥ = both_ways (writes_in table low high op) out (writes_at_in table low high op q is ∙ within) in no_one)
-
     no_other : (q : Cell) → writes_in table low high op ≡ true → in_scan table low high q ≡ false → writes_at q op ≡ false
     no_other q within out = by_test (writes_at q op) refl where
       by_test : (b : Bool) → writes_at q op ≡ b → writes_at q op ≡ false
@@ -209,7 +237,7 @@ module _ (tx table : ℕ) (low high : List ℕ) where
     outside : writes_in table low high op ≡ false → (q : Cell) → row_at (rows_in table low high (rows_after tx rows op)) q ≡ row_at (rows_in table low high rows) q
     outside out q = kept (rows_after tx rows op) q ∙ by_test (in_scan table low high q) refl ∙ sym (kept rows q) where
       by_test : (b : Bool) → in_scan table low high q ≡ b → cond b (row_at (rows_after tx rows op) q) None ≡ cond b (row_at rows q) None
-      by_test true within = after_one tx rows op q ∙ ap (λ w. row_with tx (cond w (Some op) None) (row_at rows q)) (no_write q out within)
+      by_test true within = after_one tx rows op q ∙ ap (λ w. row_with tx (cond w (Some op) None) (row_at rows q)) (unwritten_in table low high op q out within)
       by_test false other = refl
 
     inside : writes_in table low high op ≡ true → (q : Cell) → row_at (rows_in table low high (rows_after tx rows op)) q ≡ row_at (rows_after tx (rows_in table low high rows) op) q

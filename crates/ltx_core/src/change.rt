@@ -10,6 +10,7 @@ ghost use Rattle.ltx_core.specs.Outcomes.{change_unless, change_of_key, change_b
 
 use crate::range::rows_in;
 use crate::rows::writer_of;
+use crate::scan::from_first_write;
 use crate::short::{Look, Noted, is_written};
 use ltx_model::bytes::{Bound, Key};
 use ltx_model::commands::Op;
@@ -90,9 +91,10 @@ fn first_difference(
     ensures { IfOk result (λ change. change ≡ first_difference number table looks.now (looked_up rows.now (operations_of earlier.now) table low.now high.now)) }
 {
     let range = rows_in(rows, table, low, high);
+    let own = from_first_write(earlier, table, low, high);
     let mut left = looks;
     for row in range {
-        if is_written(earlier, row.table, &row.key) {
+        if is_written(own, row.table, &row.key) {
             continue;
         }
         match left.split_first() {

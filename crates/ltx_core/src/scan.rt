@@ -1,6 +1,7 @@
 //! A scan of a transaction: what it is answered, and what it looks up.
 
-ghost use Rattle.std.specs.Prelude.{◌≡◌, IfOk, map};
+ghost use Rattle.std.specs.Prelude.{◌≡◌, IfOk, List, map};
+ghost use Rattle.ltx_model.specs.declared.rows.StoredRow.{StoredRow};
 ghost use Rattle.ltx_model.specs.Keys.{IsRising};
 ghost use Rattle.ltx_model.specs.StoredRows.{cell_of};
 ghost use Rattle.ltx_model.specs.Rows.{row_of, rows_after_all};
@@ -100,6 +101,25 @@ fn look_at(row: &StoredRow) -> Result<Look, NoMemory>
     })
 }
 
+/// The operations from the first one on that writes a key of the range: those before it write none there.
+pub fn from_first_write<'a>(
+    notes: &'a [Noted],
+    table: Table,
+    low: &Bound,
+    high: &Bound,
+) -> &'a [Noted]
+    ensures { (rows : List StoredRow) → looked_up rows (operations_of result.now) table low.now high.now ≡ looked_up rows (operations_of notes.now) table low.now high.now }
+{
+    for place in 0..notes.len() {
+        if writes_in(&notes[place].op, table, low, high) {
+            let (_, rest) = notes.split_at(place);
+            return rest;
+        }
+    }
+    let (_, rest) = notes.split_at(notes.len());
+    rest
+}
+
 /// What a scan looks up: the rows of its range that the transaction has not written.
 #[tactic(auto, using(crate::proofs::Ranges::looks_next))]
 pub fn look_up(
@@ -114,9 +134,10 @@ pub fn look_up(
     ensures { IfOk result (λ looks. looks ≡ looked_up rows.now (operations_of notes.now) table low.now high.now) }
 {
     let range = rows_in(rows, table, low, high);
+    let own = from_first_write(notes, table, low, high);
     let mut looks = Vec::new(alloc);
     for row in range {
-        if !is_written(notes, row.table, &row.key) {
+        if !is_written(own, row.table, &row.key) {
             looks.push(look_at(row)?)?;
         }
     }

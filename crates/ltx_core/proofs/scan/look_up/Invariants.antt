@@ -5,4 +5,4 @@ use Rattle.ltx_core.proofs.scan.look_up.Given as goal
 
 -- the looks of the rows so far
 abbrev pub invariant-loop-row : goal.invariant-loop-row
-invariant-loop-row l = l.looks.items ≡ looks_among (operations_of l.notes) (take l.row-index l.range)
+invariant-loop-row l = l.looks.items ≡ looks_among (operations_of l.own) (take l.row-index l.range)
