@@ -49,3 +49,4 @@ pub mod WitnessChanges
 pub mod WitnessStates
 pub mod WitnessBatches
 pub mod WitnessBatchStates
+pub mod SlotsKept

@@ -1,11 +1,11 @@
 //! Where transactions stand in the serial order, by how they were committed.
 
-ghost use Rattle.std.specs.Prelude.{◌≡◌, ℕ, ◌<◌, Bool, true, List, [], ◌∷◌, ◌++◌, Contains};
+ghost use Rattle.std.specs.Prelude.{◌≡◌, ℕ, ◌<◌, Bool, true, false, List, [], ◌∷◌, ◌++◌, Contains};
 ghost use Rattle.ltx_model.specs.declared.commands.Line.{Line};
 ghost use Rattle.ltx_model.specs.declared.replies.Entry.{Entry};
 ghost use Rattle.ltx_model.specs.Operations.{Transaction};
 ghost use Rattle.ltx_model.specs.Agenda.{serial};
-ghost use Rattle.ltx_model.specs.States.{Declaration, IsShort, IsLive, Active, Base, IsSound, State, order};
+ghost use Rattle.ltx_model.specs.States.{Declaration, IsShort, IsPending, IsLive, Active, Base, IsSound, State, order};
 ghost use Rattle.ltx_model.specs.Histories.{state};
 ghost use Rattle.ltx_model.specs.Answers.{IsLegalWith};
 ghost use Rattle.ltx_laws.specs.Commits.{IsCommitOf, IsHomeReply, IsForwardedReply, IsPrintedForwarded, StandsJustBefore};
@@ -45,4 +45,21 @@ pub fn against_numbers_is_forwarded()
         → IsLegalWith built base history
         → (a b : ℕ) → has_slot (state base history).moves a ≡ true → has_slot (state base history).moves b ≡ true
         → a < b → StandsBefore (order (state base history)) b a → IsPrintedForwarded base history b }
+{}
+
+/// What is committed was a short or a live batch, and its slot tells which: a batch had one and a short had none, in every
+/// longer history.
+pub fn slots_tell_batches_from_shorts()
+    ensures batch { (built : State → Line → Bool) (base : Base) (history more : List Entry) (entry : Entry) → IsSound base
+        → IsLegalWith built base (history ++ entry ∷ more)
+        → (o : Active) → IsCommitOf (state base history) entry o
+        → (d : Declaration) (snapshot : List Transaction) → o.kind ≡ IsLive d snapshot
+        → has_slot (state base (history ++ entry ∷ more)).moves o.number ≡ true }
+    ensures short { (built : State → Line → Bool) (base : Base) (history more : List Entry) (entry : Entry) → IsSound base
+        → IsLegalWith built base (history ++ entry ∷ more)
+        → (o : Active) → IsCommitOf (state base history) entry o → o.kind ≡ IsShort
+        → has_slot (state base (history ++ entry ∷ more)).moves o.number ≡ false }
+    ensures pending { (built : State → Line → Bool) (base : Base) (history more : List Entry) (entry : Entry) → IsSound base
+        → IsLegalWith built base (history ++ entry ∷ more)
+        → (o : Active) → IsCommitOf (state base history) entry o → (d : Declaration) → o.kind ≡ IsPending d → ⊥ }
 {}
