@@ -1,1 +1,6 @@
 pub mod Fronts
+pub mod Hints
+pub mod PartLemmas
+pub mod Rising
+pub mod RowsRead
+pub mod Spaces

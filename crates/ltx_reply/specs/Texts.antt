@@ -1,12 +1,13 @@
 -- The text of each reply: words of visible bytes with one space between two.
-use Rattle.std.specs.Prelude.{◌≢◌, ℕ, ◌<◌, List, ◌∷◌, ◌++◌, length, flat_map, Option, Some, None, codes}
+use Rattle.std.specs.Prelude.{◌≢◌, ℕ, ◌<◌, ◌≤◌, ◌^◌, List, ◌∷◌, ◌++◌, length, flat_map, Option, Some, None, codes}
+use Rattle.std.specs.List.{AllByRecursion}
 use Rattle.ltx_model.specs.declared.commands.Bad.{Bad}
 use Rattle.ltx_model.specs.declared.commands.Bad.TheVariants as causes
 use Rattle.ltx_model.specs.declared.replies.Reply.{Reply}
 use Rattle.ltx_model.specs.declared.replies.Reply.TheVariants as replies
 use Rattle.ltx_model.specs.declared.rows.Row.{Row}
 use Rattle.ltx_model.specs.Keys.{Cell, IsRising}
-use Rattle.ltx_text.specs.Words.{word_of}
+use Rattle.ltx_text.specs.Words.{AreBytes, word_of}
 use Rattle.ltx_text.specs.Decimals.{decimal_of}
 
 -- a word after a space
@@ -78,3 +79,54 @@ IsReply (replies.Changed op table key found current) = (0 < op) × (found ≢ cu
 IsReply (replies.Late target op table key writer) = 0 < op
 IsReply (replies.Contradicts target op table key reader) = 0 < op
 IsReply reply = Unit {0}
+
+-- a transaction is numbered from 1 on, in 63 bits
+abbrev pub IsTx : ℕ → Type 0
+IsTx n = (0 < n) × (n < 2 ^ 63)
+
+-- a writer, if there is one
+abbrev pub IsWriter : Option ℕ → Type 0
+IsWriter None = Unit {0}
+IsWriter (Some n) = IsTx n
+
+-- epochs and operations are numbered in 32 bits
+abbrev pub IsCount : ℕ → Type 0
+IsCount n = n < 2 ^ 32
+
+-- there are 64 tables
+abbrev pub IsTable : ℕ → Type 0
+IsTable n = n < 64
+
+-- a key is 1 to 64 bytes
+pub record IsKey (key : List ℕ) : Type 0 where
+  pub some : 0 < length key
+  pub short : length key ≤ 64
+  pub bytes : AreBytes key
+
+-- a value is 0 to 1,024 bytes
+pub record IsValue (value : List ℕ) : Type 0 where
+  pub short : length value ≤ 1024
+  pub bytes : AreBytes value
+
+abbrev pub IsRow : Row → Type 0
+IsRow row = IsKey row.key × IsValue row.value
+
+-- the parts of a reply are within the limits of their types
+abbrev pub IsWithinLimits : Reply → Type 0
+IsWithinLimits (replies.Begun n) = IsTx n
+IsWithinLimits (replies.BegunAt n epoch) = IsTx n × IsCount epoch
+IsWithinLimits (replies.Found value) = IsValue value
+IsWithinLimits (replies.Rows rows) = (length rows < 2 ^ 64) × AllByRecursion IsRow rows
+IsWithinLimits (replies.Committed epoch) = IsCount epoch
+IsWithinLimits (replies.CommittedBefore epoch target) = IsCount epoch × IsTx target
+IsWithinLimits (replies.Preserved table holder) = IsTable table × IsTx holder
+IsWithinLimits (replies.Changed op table key found current) = IsCount op × IsTable table × IsKey key × IsWriter found × IsWriter current
+IsWithinLimits (replies.Late target op table key writer) = IsTx target × IsCount op × IsTable table × IsKey key × IsTx writer
+IsWithinLimits (replies.Contradicts target op table key reader) = IsTx target × IsCount op × IsTable table × IsKey key × IsTx reader
+IsWithinLimits (replies.Waiting n) = IsTx n
+IsWithinLimits (replies.NotYet epoch) = IsCount epoch
+IsWithinLimits (replies.Outside table) = IsTable table
+IsWithinLimits (replies.NotPreserved table) = IsTable table
+IsWithinLimits (replies.Advanced epoch) = IsCount epoch
+IsWithinLimits (replies.Durable epoch) = IsCount epoch
+IsWithinLimits reply = Unit {0}

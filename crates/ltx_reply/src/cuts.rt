@@ -1,0 +1,53 @@
+//! The words of a text, one after another, without a copy.
+
+ghost use Rattle.std.specs.Prelude.{◌≡◌, ◌<◌, ℕ, List, length, ◌∷◌, [], Option, Some, None, MatchOption, option_copied, bytes_eq};
+ghost use Rattle.ltx_reply.specs.Readings.{words_of, words_after, next_word, five};
+ghost use Rattle.ltx_reply.specs.Readers.{Gives};
+
+use crate::unread::Unread;
+use memchr::memchr;
+
+/// The first word, and what stands behind the space after it, if there is one.
+pub(crate) fn cut(text: &[u8]) -> (&[u8], Option<&[u8]>)
+    ensures parts { words_of text.now ≡ result.0.now ∷ words_after (option_copied result.1) }
+    ensures shorter { MatchOption result.1 (result.0.now ≡ text.now) (λ rest. length rest.now < length text.now) }
+{
+    match memchr(b' ', text) {
+        None => (text, None),
+        Some(i) => {
+            let (front, rest) = text.split_at(i);
+            let (_, after) = rest.split_at(1);
+            (front, Some(after))
+        }
+    }
+}
+
+/// The next word and what stands behind it.
+pub(crate) fn next_word(rest: Option<&[u8]>) -> Result<(&[u8], Option<&[u8]>), Unread>
+    ensures { Gives (λ p. (p.0.now, words_after (option_copied p.1))) result (next_word (words_after (option_copied rest.entry))) }
+{
+    match rest {
+        None => Err(Unread::NoReply),
+        Some(text) => Ok(cut(text)),
+    }
+}
+
+/// Five words.
+#[tactic(auto, unfolding(crate::specs::Readings::five))]
+pub(crate) fn five(rest: Option<&[u8]>) -> Result<(&[u8], &[u8], &[u8], &[u8], &[u8]), Unread>
+    ensures { Gives (λ p. (p.0.now, p.1.now, p.2.now, p.3.now, p.4.now)) result (five (words_after (option_copied rest.entry))) }
+{
+    let (a, rest) = next_word(rest)?;
+    let (b, rest) = next_word(rest)?;
+    let (c, rest) = next_word(rest)?;
+    let (d, rest) = next_word(rest)?;
+    let (e, _) = next_word(rest)?;
+    Ok((a, b, c, d, e))
+}
+
+/// Whether the word is this one.
+pub(crate) fn is(word: &[u8], name: &[u8]) -> bool
+    ensures { result ≡ bytes_eq word.now name.now }
+{
+    word == name
+}
