@@ -50,3 +50,4 @@ pub mod WitnessStates
 pub mod WitnessBatches
 pub mod WitnessBatchStates
 pub mod SlotsKept
+pub mod PlayedFrames

@@ -8,3 +8,4 @@ pub mod Priority
 pub mod Logs
 pub mod Versions
 pub mod Refusals
+pub mod Played

@@ -1,6 +1,6 @@
 //! What a log gives back: the moves without the drops, and the frames of the flushes.
 
-ghost use Rattle.std.specs.Prelude.{◌≡◌, ℕ, ◌<◌, Bool, List, ◌++◌};
+ghost use Rattle.std.specs.Prelude.{◌≡◌, ℕ, ◌<◌, Bool, List, [], ◌++◌, map};
 ghost use Rattle.ltx_model.specs.declared.commands.Line.{Line};
 ghost use Rattle.ltx_model.specs.declared.replies.Entry.{Entry};
 ghost use Rattle.ltx_model.specs.Agenda.{serial};
@@ -8,8 +8,9 @@ ghost use Rattle.ltx_model.specs.States.{Base, IsSound, State, serial_through, r
 ghost use Rattle.ltx_model.specs.Histories.{state};
 ghost use Rattle.ltx_model.specs.Answers.{IsLegalWith};
 ghost use Rattle.ltx_lemmas.specs.Writes.{rows_after_last_writes};
-ghost use Rattle.ltx_laws.specs.Drops.{logged_agenda};
+ghost use Rattle.ltx_laws.specs.Drops.{logged_agenda, AreLawful};
 ghost use Rattle.ltx_laws.specs.Logs.{frames_of, events_in, events_of, moves_through};
+ghost use Rattle.ltx_laws.specs.Played.{played_list, committed_numbers, rows_after_played};
 
 /// The moves of slots and commits, without those of batches that left, give the serial order when they are played on an empty
 /// list; and so do those of the epochs up to any one give the order through it.
@@ -30,6 +31,26 @@ pub fn frames_hold_the_durable_moves()
         → IsLegalWith built base history
         → events_in (frames_of base history)
         ≡ events_of (moves_through (state base history).durable (state base history).moves) }
+{}
+
+/// Each move is lawful after those before it: a slot or a short has a new number, a batch commits or leaves where it has a live
+/// slot, and its target stands before that slot.
+pub fn moves_are_lawful()
+    ensures lawful { (built : State → Line → Bool) (base : Base) (history : List Entry) → IsSound base
+        → IsLegalWith built base history → AreLawful [] (state base history).moves }
+{}
+
+/// The events of the frames that the flushes of a history write, played one after another on the empty list, give the order
+/// through the durable epoch; and the writes of the list's committed members, over the base's rows, give the rows through it.
+pub fn frames_give_the_durable_order()
+    ensures order { (built : State → Line → Bool) (base : Base) (history : List Entry) → IsSound base
+        → IsLegalWith built base history
+        → committed_numbers (played_list (events_in (frames_of base history)))
+        ≡ map (λ t. t.number) (serial_through (state base history) (state base history).durable) }
+    ensures rows { (built : State → Line → Bool) (base : Base) (history : List Entry) → IsSound base
+        → IsLegalWith built base history
+        → rows_after_played base.rows (played_list (events_in (frames_of base history)))
+        ≡ rows_through (state base history) (state base history).durable }
 {}
 
 /// The rows through an epoch are what the last write of each key gives, transaction by transaction in the order through it, over

@@ -1,0 +1,5 @@
+use Rattle.ltx_laws.proofs.PlayedFrames.{order_played, rows_played}
+use Rattle.ltx_laws.proofs.recovery.frames_give_the_durable_order.Goals as goal
+
+pub returns : goal.returns
+returns c = record { order = order_played; rows = rows_played }
