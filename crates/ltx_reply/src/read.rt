@@ -70,7 +70,8 @@ fn is_reply(reply: &Reply) -> bool
 /// What callers rest on: no two replies have one text.
 #[tactic(auto, using(crate::proofs::Hints::replies_differ))]
 pub fn replies_have_texts_of_their_own()
-    ensures one { (x y : Reply) → IsWithinLimits x → IsWithinLimits y → reply_text x ≡ reply_text y → x ≡ y }
+    ensures one { (x y : Reply) → IsWithinLimits x → IsWithinLimits y →
+        reply_text x ≡ reply_text y → x ≡ y }
 {}
 
 /// The reply with this text, whose operations are counted from 1, whose two writers of a change differ, and whose
@@ -78,9 +79,11 @@ pub fn replies_have_texts_of_their_own()
 pub fn read_reply(alloc: Global, text: &[u8]) -> Result<Option<Reply>, NoMemory>
     ensures found { IfOk result (λ found. IfSome found (λ reply. reply_text reply ≡ text.now)) }
     ensures kept { IfOk result (λ found. IfSome found (λ reply. IsReply reply)) }
-    ensures none { IfOk result (λ found. IfNone found ((reply : Reply) → IsReply reply → IsWithinLimits reply → reply_text reply ≢ text.now)) }
+    ensures none { IfOk result (λ found. IfNone found ((reply : Reply) → IsReply reply →
+        IsWithinLimits reply → reply_text reply ≢ text.now)) }
     // What was printed is read again.
-    ensures again { (reply : Reply) → IsReply reply → IsWithinLimits reply → reply_text reply ≡ text.now → IfOk result (λ found. found ≡ Some reply) }
+    ensures again { (reply : Reply) → IsReply reply → IsWithinLimits reply →
+        reply_text reply ≡ text.now → IfOk result (λ found. found ≡ Some reply) }
 {
     let reply = match guess(alloc, text) {
         Ok(reply) => reply,
