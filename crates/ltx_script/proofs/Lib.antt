@@ -6,3 +6,4 @@ pub mod SetTexts
 pub mod Readings
 pub mod Spelt
 pub mod Refused
+pub mod OneCause

@@ -85,7 +85,7 @@ value_is word value e =
     let w = within_is 1024 word value (bytes_of word) refl (some_is (within 1024 (bytes_of word)) causes.Value value e) in
     (record { short = w.short; bytes = w.spelt.low }, w.spelt.is)
 
-marked_is : (mark word : List ℕ) (set : ℕ) → marked mark word ≡ Some set → (set < 2 ^ 64) × (word ≡ mark ++ set_text set)
+pub marked_is : (mark word : List ℕ) (set : ℕ) → marked mark word ≡ Some set → (set < 2 ^ 64) × (word ≡ mark ++ set_text set)
 marked_is mark word set e = elim (cases_Bool (bytes_eq (take 2 word) mark)) [
   | inl e1 ↦
       let is = set_is (drop 2 word) set (rw e1 at e) in
@@ -96,7 +96,7 @@ marked_is mark word set e = elim (cases_Bool (bytes_eq (take 2 word) mark)) [
 pub writes_are : (word : List ℕ) (set : ℕ) → writes_at word ≡ Ok set → (set < 2 ^ 64) × (word ≡ writes_word set)
 writes_are word set e = marked_is (codes "W=") word set (some_is (marked (codes "W=") word) causes.Sets set e)
 
-not_all : (read : Option ℕ) (set : ℕ) → unless_all read ≡ Some set → (read ≡ Some set) × ((set == all_tables) ≡ false)
+pub not_all : (read : Option ℕ) (set : ℕ) → unless_all read ≡ Some set → (read ≡ Some set) × ((set == all_tables) ≡ false)
 not_all None set e = absurd cc
 not_all (Some s) set e = elim (cases_Bool (s == all_tables)) [
   | inl e1 ↦ let none : None ≡ Some set = (rw e1 at e) in absurd cc

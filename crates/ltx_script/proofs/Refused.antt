@@ -22,10 +22,10 @@ use Rattle.ltx_script.proofs.Spelt.{table_again, session_again, key_again, bound
 abbrev refused : {A : Type 0} → Bad → Result A Bad
 refused cause = Err cause
 
-err_is : {A : Type 0} (x y : Bad) → refused {A = A} x ≡ refused {A = A} y → x ≡ y
+pub err_is : {A : Type 0} (x y : Bad) → refused {A = A} x ≡ refused {A = A} y → x ≡ y
 err_is x y e = cc
 
-no_ok : {A : Type 0} (x : A) (cause : Bad) → Ok x ≡ refused {A = A} cause → ⊥
+pub no_ok : {A : Type 0} (x : A) (cause : Bad) → Ok x ≡ refused {A = A} cause → ⊥
 no_ok x cause e = absurd cc
 
 -- the cause where there is none
@@ -43,55 +43,55 @@ clash r x cause ok err = no_ok x cause (sym ok ∙ err)
 
 -- ---- arguments: a step that is refused is no spelling, and has this cause; one that is not is a spelling
 
-no_table : (word : List ℕ) (cause : Bad) → table_at word ≡ Err cause → (IsSpelling ATable word → ⊥) × (causes.Table ≡ cause)
+pub no_table : (word : List ℕ) (cause : Bad) → table_at word ≡ Err cause → (IsSpelling ATable word → ⊥) × (causes.Table ≡ cause)
 no_table word cause e = (λ s. clash (table_at word) s.0 cause (ap table_at s.2 ∙ table_again s.0 s.1) e, none_cause (number_in 0 64 word) causes.Table cause e)
 
-a_table : (word : List ℕ) (table : ℕ) → table_at word ≡ Ok table → IsSpelling ATable word
+pub a_table : (word : List ℕ) (table : ℕ) → table_at word ≡ Ok table → IsSpelling ATable word
 a_table word table e = let is = table_is word table e in (table, is.0, is.1)
 
-no_key : (word : List ℕ) (cause : Bad) → key_at word ≡ Err cause → (IsSpelling AKey word → ⊥) × (causes.Key ≡ cause)
+pub no_key : (word : List ℕ) (cause : Bad) → key_at word ≡ Err cause → (IsSpelling AKey word → ⊥) × (causes.Key ≡ cause)
 no_key word cause e = (λ s. clash (key_at word) s.0 cause (ap key_at s.2 ∙ key_again s.0 s.1) e, none_cause (unless_empty (within 64 (bytes_of word))) causes.Key cause e)
 
-a_key : (word key : List ℕ) → key_at word ≡ Ok key → IsSpelling AKey word
+pub a_key : (word key : List ℕ) → key_at word ≡ Ok key → IsSpelling AKey word
 a_key word key e = let is = key_is word key e in (key, is.0, is.1)
 
-no_bound : (word : List ℕ) (cause : Bad) → bound_at word ≡ Err cause → (IsSpelling ABound word → ⊥) × (causes.Key ≡ cause)
+pub no_bound : (word : List ℕ) (cause : Bad) → bound_at word ≡ Err cause → (IsSpelling ABound word → ⊥) × (causes.Key ≡ cause)
 no_bound word cause e = (λ s. clash (bound_at word) s.0 cause (ap bound_at s.2 ∙ bound_again s.0 s.1) e, none_cause (within 64 (bytes_of word)) causes.Key cause e)
 
-a_bound : (word bound : List ℕ) → bound_at word ≡ Ok bound → IsSpelling ABound word
+pub a_bound : (word bound : List ℕ) → bound_at word ≡ Ok bound → IsSpelling ABound word
 a_bound word bound e = let is = bound_is word bound e in (bound, is.0, is.1)
 
-no_value : (word : List ℕ) (cause : Bad) → value_at word ≡ Err cause → (IsSpelling AValue word → ⊥) × (causes.Value ≡ cause)
+pub no_value : (word : List ℕ) (cause : Bad) → value_at word ≡ Err cause → (IsSpelling AValue word → ⊥) × (causes.Value ≡ cause)
 no_value word cause e = (λ s. clash (value_at word) s.0 cause (ap value_at s.2 ∙ value_again s.0 s.1) e, none_cause (within 1024 (bytes_of word)) causes.Value cause e)
 
-no_writes : (word : List ℕ) (cause : Bad) → writes_at word ≡ Err cause → (IsSpelling AWrites word → ⊥) × (causes.Sets ≡ cause)
+pub no_writes : (word : List ℕ) (cause : Bad) → writes_at word ≡ Err cause → (IsSpelling AWrites word → ⊥) × (causes.Sets ≡ cause)
 no_writes word cause e = (λ s. clash (writes_at word) s.0 cause (ap writes_at s.2 ∙ writes_again s.0 s.1) e, none_cause (marked (codes "W=") word) causes.Sets cause e)
 
-a_write : (word : List ℕ) (set : ℕ) → writes_at word ≡ Ok set → IsSpelling AWrites word
+pub a_write : (word : List ℕ) (set : ℕ) → writes_at word ≡ Ok set → IsSpelling AWrites word
 a_write word set e = let is = writes_are word set e in (set, is.0, is.1)
 
-other_set : (set : ℕ) → set ≢ all_tables → (set == all_tables) ≡ false
+pub other_set : (set : ℕ) → set ≢ all_tables → (set == all_tables) ≡ false
 other_set set other = grind (arith, other)
 
-reads_spelt : (word : List ℕ) (set : ℕ) → word ≡ codes "R=" ++ set_text set → set < 2 ^ 64 → set ≢ all_tables → reads_at (Some word) ≡ Ok set
+pub reads_spelt : (word : List ℕ) (set : ℕ) → word ≡ codes "R=" ++ set_text set → set < 2 ^ 64 → set ≢ all_tables → reads_at (Some word) ≡ Ok set
 reads_spelt word set is fits other = ap (λ w. reads_at (Some w)) is ∙ reads_again set fits (other_set set other)
 
-no_reads : (word : List ℕ) (cause : Bad) → reads_at (Some word) ≡ Err cause → (IsSpelling AReads word → ⊥) × (causes.Sets ≡ cause)
+pub no_reads : (word : List ℕ) (cause : Bad) → reads_at (Some word) ≡ Err cause → (IsSpelling AReads word → ⊥) × (causes.Sets ≡ cause)
 no_reads word cause e = (λ s. clash (reads_at (Some word)) s.0 cause (reads_spelt word s.0 s.3 s.1 s.2) e, none_cause (unless_all (marked (codes "R=") word)) causes.Sets cause e)
 
 -- ---- verbs
 
 -- a form with other arguments
-fewer_more : (n : ℕ) → (0 == suc n) ≡ false
+pub fewer_more : (n : ℕ) → (0 == suc n) ≡ false
 fewer_more n = grind arith
 
-one_more : (n : ℕ) → (1 == suc (suc n)) ≡ false
+pub one_more : (n : ℕ) → (1 == suc (suc n)) ≡ false
 one_more n = grind arith
 
-two_more : (n : ℕ) → (2 == suc (suc (suc n))) ≡ false
+pub two_more : (n : ℕ) → (2 == suc (suc (suc n))) ≡ false
 two_more n = grind arith
 
-three_more : (n : ℕ) → (3 == suc (suc (suc (suc n)))) ≡ false
+pub three_more : (n : ℕ) → (3 == suc (suc (suc (suc n)))) ≡ false
 three_more n = grind arith
 
 words_cause : (verb : List ℕ) (args : List (List ℕ)) (cause : Bad) → forms_of verb ≢ [] → form_of verb (length args) ≡ None → causes.Words ≡ cause → VerbCause verb args cause
@@ -200,7 +200,7 @@ long_cause (a ∷ b ∷ c ∷ args) cause e =
 renamed : (word name : List ℕ) (args : List (List ℕ)) (cause : Bad) → bytes_eq word name ≡ true → VerbCause name args cause → VerbCause word args cause
 renamed word name args cause e is = subst (λ (w : List ℕ). VerbCause w args cause) (sym (text_is word name e)) is
 
-unknown_verb : (word : List ℕ) → bytes_eq word (codes "short") ≡ false → bytes_eq word (codes "long") ≡ false → bytes_eq word (codes "get") ≡ false → bytes_eq word (codes "scan") ≡ false
+pub unknown_verb : (word : List ℕ) → bytes_eq word (codes "short") ≡ false → bytes_eq word (codes "long") ≡ false → bytes_eq word (codes "get") ≡ false → bytes_eq word (codes "scan") ≡ false
     → bytes_eq word (codes "put") ≡ false → bytes_eq word (codes "del") ≡ false → bytes_eq word (codes "commit") ≡ false → bytes_eq word (codes "abort") ≡ false → forms_of word ≡ []
 unfolding forms_of
 unknown_verb word a b c d e f g h = rw (a, b, c, d, e, f, g, h) refl
@@ -239,10 +239,10 @@ more_words : (first : List ℕ) (words : List (List ℕ)) (command : Command) (c
 more_words first [] command cause is e = absurd (no_ok command cause e)
 more_words first (second ∷ words) command cause is e = subst (WordsCause (first ∷ second ∷ words)) (err_is {A = Command} causes.Words cause e) (word_behind is)
 
-not_session : (word : List ℕ) (cause : Bad) → session_at word ≡ Err cause → (IsSession word → ⊥) × (causes.Session ≡ cause)
+pub not_session : (word : List ℕ) (cause : Bad) → session_at word ≡ Err cause → (IsSession word → ⊥) × (causes.Session ≡ cause)
 not_session word cause e = (λ s. clash (session_at word) s.0 cause (ap session_at s.3 ∙ session_again s.0 s.1 s.2) e, none_cause (number_in 1 1024 word) causes.Session cause e)
 
-a_session : (word : List ℕ) (session : ℕ) → session_at word ≡ Ok session → IsSession word
+pub a_session : (word : List ℕ) (session : ℕ) → session_at word ≡ Ok session → IsSession word
 a_session word session e = let is = session_is word session e in (session, is.0, is.1, is.2)
 
 asked_cause : (first : List ℕ) (words : List (List ℕ)) (cause : Bad) → (IsControl first → ⊥) → IsSession first → asked_at words ≡ Err cause → WordsCause (first ∷ words) cause
@@ -259,7 +259,7 @@ ask_cause first words cause other e = elim (bind_err (session_at first) (λ sess
   ]
 ]
 
-no_control : (word : List ℕ) → bytes_eq word (codes "epoch") ≡ false → bytes_eq word (codes "flush") ≡ false → bytes_eq word (codes "prune") ≡ false → IsControl word → ⊥
+pub no_control : (word : List ℕ) → bytes_eq word (codes "epoch") ≡ false → bytes_eq word (codes "flush") ≡ false → bytes_eq word (codes "prune") ≡ false → IsControl word → ⊥
 no_control word a b c (inl is) = let e : true ≡ false = sym (same_bytes word (codes "epoch") is) ∙ a in absurd cc
 no_control word a b c (inr (inl is)) = let e : true ≡ false = sym (same_bytes word (codes "flush") is) ∙ b in absurd cc
 no_control word a b c (inr (inr is)) = let e : true ≡ false = sym (same_bytes word (codes "prune") is) ∙ c in absurd cc

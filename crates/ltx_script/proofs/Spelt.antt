@@ -24,6 +24,7 @@ use Rattle.ltx_script.specs.Commands.{joined, commas, tables_of, tables_text, se
 use Rattle.ltx_script.specs.Lines.{cut_at, words_of, is_word, table_at, session_at, key_at, bound_at, value_at, writes_at, reads_at, one_or_two, two, three, long_at, get_at, scan_at, put_at, del_at, verb_at, asked_at, ask_at, command_at, said_at, most_bytes, reading, line_from, line_of}
 use Rattle.ltx_script.specs.Rising.{IsRisingFrom}
 use Rattle.ltx_script.proofs.ValueLemmas.{number_some, bytes_again, key_some, bound_some, value_some, other_bytes}
+use Rattle.ltx_script.proofs.Readings.{ok_is}
 use Rattle.ltx_script.proofs.SetLemmas.{tables_rise}
 use Rattle.ltx_script.proofs.SetTexts.{set_again, all_text, is_all, other_text}
 
@@ -283,3 +284,10 @@ spelt_again line command fits is = ap reading is ∙ reading_again command fits
 pub line_again : (command : Command) → IsCommand command → line_of (command_text command) ≡ lines.Good command
 unfolding line_of
 line_again command fits = ap line_from (reading_again command fits)
+
+pub one_command : (a b : Command) → IsCommand a → IsCommand b → command_text a ≡ command_text b → a ≡ b
+one_command a b first second same = ok_is a b (sym (reading_again a first) ∙ spelt_again (command_text a) b second same)
+
+pub fits_a_line : (command : Command) → IsCommand command → length (command_text command) ≤ most_bytes
+unfolding command_text
+fits_a_line command fits = omega (arith, joined_total (command_words command), command_short command fits)

@@ -1,5 +1,5 @@
 -- Reading a line: the command with this spelling, or the first cause why there is none.
-use Rattle.std.specs.Prelude.{ℕ, ◌+◌, ◌-◌, ◌*◌, Bool, ◌==◌, ◌&&◌, nat_lt, if◌then◌else◌, List, [], ◌∷◌, length, take, drop, Option, Some, None, Result, Ok, Err, ok_or, find, filter_map, fold, codes, bytes_eq}
+use Rattle.std.specs.Prelude.{◌≡◌, ℕ, ◌+◌, ◌-◌, ◌*◌, Bool, ◌==◌, ◌&&◌, nat_lt, if◌then◌else◌, List, [], ◌∷◌, length, take, drop, Option, Some, None, Result, Ok, Err, ok_or, find, filter_map, fold, codes, bytes_eq}
 use Rattle.std.specs.List.{range_with_len, slice_split, list_all}
 use Rattle.ltx_model.specs.declared.commands.Op.TheVariants.{Get, Scan, Put, Del}
 use Rattle.ltx_model.specs.declared.commands.Verb.{Verb}
@@ -256,6 +256,10 @@ line_from (Err cause) = lines.Bad cause
 -- what a line says
 unfoldable pub line_of : List ℕ → Line
 line_of line = line_from (reading line)
+
+-- the line says no command, for this cause
+abbrev pub SaysBad : List ℕ → Bad → Type 0
+SaysBad line cause = line_of line ≡ lines.Bad cause
 
 -- a fact of the command of a line, if it has one
 abbrev pub IfGood : Line → (Command → Type 0) → Type 0

@@ -1,11 +1,12 @@
 //! Reading a line of a script: the command with this spelling, or the first cause why there is none.
 
-ghost use Rattle.std.specs.Prelude.{◌≡◌, ℕ, List, length, Option, IfOk, option_copied};
+ghost use Rattle.std.specs.Prelude.{◌≡◌, ◌≤◌, ℕ, List, length, Option, IfOk, option_copied};
 ghost use Rattle.ltx_model.specs.declared.commands.Command.{Command};
 ghost use Rattle.ltx_model.specs.declared.commands.Line.TheVariants.{Good};
+ghost use Rattle.ltx_model.specs.declared.commands.Bad.{Bad};
 ghost use Rattle.ltx_script.specs.Commands.{IsCommand, command_text};
 ghost use Rattle.ltx_script.specs.Causes.{IsCause};
-ghost use Rattle.ltx_script.specs.Lines.{words_of, words_after, ask_at, command_at, said_at, reading, line_of, IfGood, IfBad};
+ghost use Rattle.ltx_script.specs.Lines.{words_of, words_after, ask_at, command_at, said_at, most_bytes, reading, line_of, SaysBad, IfGood, IfBad};
 ghost use Rattle.ltx_script.specs.Readers.{Gives};
 
 use crate::arguments::session_of;
@@ -79,3 +80,11 @@ pub fn parse_line(alloc: Global, line: &[u8]) -> Result<Line, NoMemory>
         Err(Refusal::Memory) => Err(NoMemory),
     }
 }
+
+/// What callers rest on: a spelling is of one command, none is longer than a line, and a line with a cause says it.
+#[tactic(auto, using(crate::proofs::Spelt::one_command, crate::proofs::Spelt::fits_a_line, crate::proofs::OneCause::one_cause))]
+pub fn spellings_are_one()
+    ensures one { (a b : Command) → IsCommand a → IsCommand b → command_text a ≡ command_text b → a ≡ b }
+    ensures short { (command : Command) → IsCommand command → length (command_text command) ≤ most_bytes }
+    ensures refused { (line : List ℕ) (cause : Bad) → IsCause line cause → SaysBad line cause }
+{}
