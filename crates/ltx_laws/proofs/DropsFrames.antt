@@ -140,7 +140,7 @@ below_is_through e moves positive = filter_same (λ (m : Timed). nat_lt m.epoch 
   by_test m true is = let less : m.epoch < e = ltb-true m.epoch e is in is ∙ sym (le-leb m.epoch (e - 1) (let h : m.epoch ≤ e - 1 = omega arith in h))
   by_test m false is = let more : e ≤ m.epoch = ltb-false m.epoch e is in is ∙ sym (lt-leb m.epoch (e - 1) (let h : e - 1 < m.epoch = omega arith in h))
 
-sealed_events : (s : State) → (sealed s).events ≡ events_of (filter (λ m. nat_lt s.durable m.epoch && nat_lt m.epoch s.epoch) s.moves)
+pub sealed_events : (s : State) → (sealed s).events ≡ events_of (filter (λ m. nat_lt s.durable m.epoch && nat_lt m.epoch s.epoch) s.moves)
 unfolding sealed
 sealed_events s = refl
 
@@ -164,7 +164,7 @@ adds s after g ahead rising b is = by_which g.durable b is where
       let same : s.durable ≡ s.epoch - 1 = omega arith in
       append-nil (events_of (moves_through s.durable s.moves)) ∙ (λ i. events_of (moves_through ((same ∙ sym last) i) (sym moves i)))
 
-stays_open : (s after : State) → Grows s after → s.durable < s.epoch → after.durable < after.epoch
+pub stays_open : (s after : State) → Grows s after → s.durable < s.epoch → after.durable < after.epoch
 stays_open s after g ahead = by_which g.durable where
   by_which : (after.durable ≡ s.durable) ⊎ ((after.durable ≡ s.epoch - 1) × (after.moves ≡ s.moves)) → after.durable < after.epoch
   by_which (inl same) = let rises : s.epoch ≤ after.epoch = g.epoch in let h : after.durable < after.epoch = omega arith in h

@@ -106,7 +106,7 @@ module _ (past : List Timed) (epoch : ℕ) (logged : List Member) where
         let kept = filter_item (is_kept (has_left past)) logged m (subst (λ l. Contains l m) (sym h.same) there) in
         ap (has_left past) (sym (eqb-true (number_of m) n number)) ∙ not-true (has_left past (number_of m)) kept.1
 
-    slot_stays : (n : ℕ) → Contains agenda (LiveSlot n) → has_left past n ≡ false
+    pub slot_stays : (n : ℕ) → Contains agenda (LiveSlot n) → has_left past n ≡ false
     slot_stays n here = member_stays n (any_contains (has_number n) agenda (LiveSlot n) here (same_number n))
 
     pushed : (m : Move) (x : Member) → ((n : ℕ) → leaves n m ≡ false) → is_member agenda (number_of x) ≡ false → has_slot past (number_of x) ≡ false → AreLogged (later m) (agenda ++ x ∷ []) (logged ++ x ∷ [])
@@ -188,12 +188,12 @@ module _ (past : List Timed) (epoch : ℕ) (logged : List Member) where
           let no : ⊥ = cc in no
 
 -- the logged list after one move more
-logs_more : (past : List Timed) (epoch : ℕ) (m : Move) → is_leave m ≡ false → logged_agenda (past ++ record { epoch = epoch; move = m } ∷ []) ≡ agenda_after (logged_agenda past) m
+pub logs_more : (past : List Timed) (epoch : ℕ) (m : Move) → is_leave m ≡ false → logged_agenda (past ++ record { epoch = epoch; move = m } ∷ []) ≡ agenda_after (logged_agenda past) m
 logs_more past epoch m stays =
     let new : Timed = record { epoch = epoch; move = m } in
     ap (agenda_from []) (filter_append (λ (x : Timed). not (is_leave x.move)) past (new ∷ []) ∙ ap (λ b. without_leaves past ++ cond (not b) (new ∷ []) []) stays) ∙ agenda_more [] (without_leaves past) new
 
-logs_same : (past : List Timed) (epoch n : ℕ) → logged_agenda (past ++ record { epoch = epoch; move = Leave n } ∷ []) ≡ logged_agenda past
+pub logs_same : (past : List Timed) (epoch n : ℕ) → logged_agenda (past ++ record { epoch = epoch; move = Leave n } ∷ []) ≡ logged_agenda past
 logs_same past epoch n = ap (agenda_from []) (filter_append (λ (x : Timed). not (is_leave x.move)) past (record { epoch = epoch; move = Leave n } ∷ []) ∙ append-nil (without_leaves past))
 
 abbrev pub IsLoggedAfter : List Timed → Type 0
@@ -206,7 +206,7 @@ module _ (past : List Timed) (epoch : ℕ) (h : IsLoggedAfter past) where
       subst (λ ms. AreLogged (past ++ record { epoch = epoch; move = m } ∷ []) ms (logged_agenda (past ++ record { epoch = epoch; move = m } ∷ []))) (sym (agenda_more [] past (record { epoch = epoch; move = m })))
       (subst (AreLogged (past ++ record { epoch = epoch; move = m } ∷ []) (agenda_after (agenda_from [] past) m)) (sym (logs_more past epoch m stays)) g)
 
-  logged_step : (m : Move) → IsLawful past (agenda_from [] past) m → IsLoggedAfter (past ++ record { epoch = epoch; move = m } ∷ [])
+  pub logged_step : (m : Move) → IsLawful past (agenda_from [] past) m → IsLoggedAfter (past ++ record { epoch = epoch; move = m } ∷ [])
   logged_step (Slot n) lawful = moved_on (Slot n) refl (pushed past epoch (logged_agenda past) (agenda_from [] past) h (Slot n) (LiveSlot n) (λ k. refl) lawful.0 lawful.1)
   logged_step (CommitShort t) lawful = moved_on (CommitShort t) refl (pushed past epoch (logged_agenda past) (agenda_from [] past) h (CommitShort t) (Committed t) (λ k. refl) lawful.0 lawful.1)
   logged_step (CommitHome t) lawful = moved_on (CommitHome t) refl (home past epoch (logged_agenda past) (agenda_from [] past) h t lawful)

@@ -51,3 +51,4 @@ pub mod WitnessBatches
 pub mod WitnessBatchStates
 pub mod SlotsKept
 pub mod PlayedFrames
+pub mod LawfulFrames

@@ -22,7 +22,7 @@ abbrev pub as_played : Member → Played
 as_played (LiveSlot n) = PlayedSlot n
 as_played (Committed t) = PlayedCommit t.number (writes_in t)
 
-played_home : (t : Transaction) (ms : List Member) → map as_played (map (commit_at_slot t) ms) ≡ map (commit_there t.number (writes_in t)) (map as_played ms)
+pub played_home : (t : Transaction) (ms : List Member) → map as_played (map (commit_at_slot t) ms) ≡ map (commit_there t.number (writes_in t)) (map as_played ms)
 played_home t [] = refl
 played_home t (m ∷ ms) = (λ i. one m i ∷ played_home t ms i) where
   one : (m : Member) → as_played (commit_at_slot t m) ≡ commit_there t.number (writes_in t) (as_played m)
@@ -35,11 +35,11 @@ played_home t (m ∷ ms) = (λ i. one m i ∷ played_home t ms i) where
     by_test true = refl
     by_test false = refl
 
-played_has : (n : ℕ) (m : Member) → is_played n (as_played m) ≡ has_number n m
+pub played_has : (n : ℕ) (m : Member) → is_played n (as_played m) ≡ has_number n m
 played_has n (LiveSlot k) = refl
 played_has n (Committed t) = refl
 
-played_without : (n : ℕ) (ms : List Member) → map as_played (without_member ms n) ≡ without_played n (map as_played ms)
+pub played_without : (n : ℕ) (ms : List Member) → map as_played (without_member ms n) ≡ without_played n (map as_played ms)
 played_without n [] = refl
 played_without n (m ∷ ms) = by_test (has_number n m) (played_without n ms) ∙ ap (λ b. cond (not b) (as_played m ∷ without_played n (map as_played ms)) (without_played n (map as_played ms))) (sym (played_has n m)) where
   by_test : (b : Bool) → map as_played (without_member ms n) ≡ without_played n (map as_played ms)
@@ -47,7 +47,7 @@ played_without n (m ∷ ms) = by_test (has_number n m) (played_without n ms) ∙
   by_test true e = e
   by_test false e = ap (λ l. as_played m ∷ l) e
 
-played_before : (x : Member) (p : ℕ) (ms : List Member) → map as_played (insert_before x p ms) ≡ put_before (as_played x) p (map as_played ms)
+pub played_before : (x : Member) (p : ℕ) (ms : List Member) → map as_played (insert_before x p ms) ≡ put_before (as_played x) p (map as_played ms)
 played_before x p [] = refl
 played_before x p (m ∷ ms) = by_test (has_number p m) (played_before x p ms) ∙ ap (λ b. cond b (as_played x ∷ as_played m ∷ map as_played ms) (as_played m ∷ put_before (as_played x) p (map as_played ms))) (sym (played_has p m)) where
   by_test : (b : Bool) → map as_played (insert_before x p ms) ≡ put_before (as_played x) p (map as_played ms)
@@ -55,7 +55,7 @@ played_before x p (m ∷ ms) = by_test (has_number p m) (played_before x p ms) �
   by_test true e = refl
   by_test false e = ap (λ l. as_played m ∷ l) e
 
-played_push : (ms : List Member) (x : Member) → map as_played (ms ++ x ∷ []) ≡ map as_played ms ++ as_played x ∷ []
+pub played_push : (ms : List Member) (x : Member) → map as_played (ms ++ x ∷ []) ≡ map as_played ms ++ as_played x ∷ []
 played_push [] x = refl
 played_push (m ∷ ms) x = ap (λ l. as_played m ∷ l) (played_push ms x)
 

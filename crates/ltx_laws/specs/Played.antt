@@ -1,8 +1,10 @@
 -- The list that the events of a log give when they are played, one after another, and the rows that its writes give.
-use Rattle.std.specs.Prelude.{ℕ, Bool, not, ◌==◌, List, [], ◌∷◌, ◌++◌, map, filter, filter_map, if◌then◌else◌, Option, Some, None}
+use Rattle.std.specs.Prelude.{◌≡◌, ℕ, ◌<◌, ◌≤◌, Bool, true, false, not, ◌==◌, List, [], ◌∷◌, ◌++◌, map, filter, filter_map, if◌then◌else◌, Option, Some, None, Contains}
+use Rattle.std.specs.List.{list_any, AllByRecursion}
 use Rattle.ltx_model.specs.declared.rows.StoredRow.{StoredRow}
 use Rattle.ltx_model.specs.declared.writes.Write.{Write}
-use Rattle.ltx_model.specs.Frames.{LogEvent, SlotEvent, ShortEvent, BatchEvent}
+use Rattle.ltx_model.specs.Lists.{before_first}
+use Rattle.ltx_model.specs.Frames.{LogEvent, SlotEvent, ShortEvent, BatchEvent, Frame}
 use Rattle.ltx_lemmas.specs.Writes.{rows_after_writes}
 
 -- a member of the list: the slot of a batch, or what is committed, a number and its writes
@@ -63,3 +65,31 @@ abbrev pub rows_after_played : List StoredRow → List Played → List StoredRow
 rows_after_played rows [] = rows
 rows_after_played rows (PlayedSlot n ∷ ps) = rows_after_played rows ps
 rows_after_played rows (PlayedCommit n writes ∷ ps) = rows_after_played (rows_after_writes n rows writes) ps
+
+-- a target is another member, which stands before the slot of n
+abbrev pub IsTargetPlayed : List Played → ℕ → Option ℕ → Type 0
+IsTargetPlayed ps n None = Unit {0}
+IsTargetPlayed ps n (Some target) = list_any (is_played target) (before_first (is_played n) ps) ≡ true
+
+-- an event is lawful after a list: a slot or a short has a number that is not in it, a batch has its slot in it, and its target before that
+abbrev pub IsLawfulEvent : List Played → LogEvent → Type 0
+IsLawfulEvent ps (SlotEvent n) = list_any (is_played n) ps ≡ false
+IsLawfulEvent ps (ShortEvent n epoch writes) = list_any (is_played n) ps ≡ false
+IsLawfulEvent ps (BatchEvent n epoch target writes) = Contains ps (PlayedSlot n) × IsTargetPlayed ps n target
+
+-- each event is lawful after those before it
+abbrev pub AreLawfulEvents : List Played → List LogEvent → Type 0
+AreLawfulEvents ps [] = Unit {0}
+AreLawfulEvents ps (e ∷ es) = IsLawfulEvent ps e × AreLawfulEvents (after_event ps e) es
+
+-- the epoch of a commit is above one epoch and at most another
+abbrev pub IsWithin : ℕ → ℕ → LogEvent → Type 0
+IsWithin lower upper (SlotEvent n) = Unit {0}
+IsWithin lower upper (ShortEvent n epoch writes) = (lower < epoch) × (epoch ≤ upper)
+IsWithin lower upper (BatchEvent n epoch target writes) = (lower < epoch) × (epoch ≤ upper)
+
+-- Each frame's epoch is above that of the frame before, or above this one for the first; its commits have epochs above that of the
+-- frame before and at most its own.
+abbrev pub AreInTime : ℕ → List Frame → Type 0
+AreInTime before [] = Unit {0}
+AreInTime before (f ∷ fs) = (before < f.epoch) × AllByRecursion (IsWithin before f.epoch) f.events × AreInTime f.epoch fs
