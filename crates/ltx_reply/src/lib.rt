@@ -4,6 +4,7 @@
 mod cuts;
 mod guess;
 mod kinds;
+pub mod limits;
 mod parts;
 pub mod pieces;
 pub mod print;
