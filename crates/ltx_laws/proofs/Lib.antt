@@ -52,3 +52,4 @@ pub mod WitnessBatchStates
 pub mod SlotsKept
 pub mod PlayedFrames
 pub mod LawfulFrames
+pub mod FloorLive

@@ -1,6 +1,6 @@
 //! The floor: the place in the agenda before which nothing changes any more.
 
-ghost use Rattle.std.specs.Prelude.{◌≡◌, ℕ, Bool, true, List, ◌++◌, Some, Contains};
+ghost use Rattle.std.specs.Prelude.{◌≡◌, ℕ, Bool, true, List, [], ◌++◌, Some, None, Contains};
 ghost use Rattle.ltx_model.specs.declared.commands.Line.{Line};
 ghost use Rattle.ltx_model.specs.declared.replies.Entry.{Entry};
 ghost use Rattle.ltx_model.specs.Operations.{Transaction};
@@ -10,6 +10,16 @@ ghost use Rattle.ltx_model.specs.Histories.{state};
 ghost use Rattle.ltx_model.specs.Answers.{IsLegalWith};
 ghost use Rattle.ltx_model.specs.Batches.{target, is_from, floor, before_floor, safe};
 ghost use Rattle.ltx_laws.specs.Orders.{IsPrefix};
+
+/// There is a floor exactly while a batch is live.
+pub fn a_floor_while_a_batch_is_live()
+    ensures live { (built : State → Line → Bool) (base : Base) (history : List Entry) → IsSound base
+        → IsLegalWith built base history
+        → (f : ℕ) → floor (state base history) ≡ Some f → live_batches (state base history) ≡ [] → ⊥ }
+    ensures none { (built : State → Line → Bool) (base : Base) (history : List Entry) → IsSound base
+        → IsLegalWith built base history
+        → floor (state base history) ≡ None → (b : LiveBatch) → Contains (live_batches (state base history)) b → ⊥ }
+{}
 
 /// While there is a floor, each target of a live batch's commit is the floor or stands after it.
 pub fn targets_stand_from_the_floor()
