@@ -1,5 +1,5 @@
 -- What a reader gives of the bytes that it holds.
-use Rattle.std.proofs.Common.{◌≡◌, ℕ, ◌+◌, ◌≤◌, List, [], ◌∷◌, ◌++◌, length, take, drop, Option, Some, None, Result, Ok, Err, OnOk, OnErr, refl, sym, ap, subst, ◌∙◌, append_assoc, arith}
+use Rattle.std.proofs.Common.{◌≡◌, ℕ, ◌+◌, ◌<◌, ◌≤◌, ◌↔◌, IsTrue, is_some, MatchOption, List, [], ◌∷◌, ◌++◌, length, take, drop, Option, Some, None, Result, Ok, Err, OnOk, OnErr, refl, sym, ap, subst, ◌∙◌, append_assoc, arith}
 use Rattle.std.proofs.lemmas.List.{append-nil, take-append-drop, drop_more, length-drop}
 use Rattle.std.specs.Io.KnownBytes.{IsAtEnd, prepend_known}
 use Rattle.std.proofs.KnownBytes.{Consumes-nil}
@@ -13,6 +13,12 @@ use Rattle.ltx_text.proofs.LineLemmas.{Cuts-nothing, feeds-append, pieces_are_fe
 parts_of : (bytes : List ℕ) (at : ℕ) → IsFirstFeed bytes at → bytes ≡ take at bytes ++ 10 ∷ drop (at + 1) bytes
 parts_of bytes at first =
     sym (take-append-drop at bytes) ∙ ap (λ (t : List ℕ). take at bytes ++ t) (drop_more bytes at 0 first.within ∙ ap (λ (b : ℕ). b ∷ drop (at + 1) bytes) first.here)
+
+-- a line is held where a first line feed was found
+pub holds_feed : (bytes : List ℕ) (found : Option ℕ) → MatchOption found (feeds bytes ≡ 0) (IsFirstFeed bytes) → IsTrue (is_some found) ↔ (0 < feeds bytes)
+holds_feed bytes None none = ((λ said. cc), λ some. absurd (omega (arith, none, some)))
+holds_feed bytes (Some at) first =
+    ((λ said. omega (arith, ap feeds (parts_of bytes at first), feeds-append (take at bytes) (10 ∷ drop (at + 1) bytes))), λ some. refl)
 
 same_given : (old new : LinesState) (left : Option (List ℕ)) (given : List (Option (List ℕ))) → new.taken ≡ old.taken
     → GivesPieces (prepend_known old.held left) (prepend_known new.held left) given → feeds old.held ≤ length given + feeds new.held → length given + length new.held ≤ length old.held → Cuts old new left left given

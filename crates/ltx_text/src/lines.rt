@@ -1,7 +1,7 @@
 //! The lines of a source, one at a time, for whoever runs a script.
 //! The bytes are taken in blocks, a read is made only where no whole line is held, and the held bytes
 //! outlive a fault.
-ghost use Rattle.std.specs.Prelude.{◌≡◌, ℕ, List, Option, Some, ◌+◌, ◌-◌, ◌≤◌, ◌<◌, ◌↔◌, [], ◌∷◌, ◌++◌, length, take, drop, IfOk, OnOk, OnErr, IsErrOf, MatchBool, MatchOption};
+ghost use Rattle.std.specs.Prelude.{◌≡◌, ℕ, List, Option, Some, ◌+◌, ◌-◌, ◌≤◌, ◌<◌, ◌↔◌, [], ◌∷◌, ◌++◌, length, take, drop, IfOk, OnOk, OnErr, IsErrOf, IsTrue, MatchBool, MatchOption};
 ghost use Rattle.std.specs.Io.KnownBytes.{IsAtEnd};
 ghost use Rattle.ltx_outside.specs.Faults.{Rose};
 ghost use Rattle.ltx_text.specs.Lines.{Cuts, IsFirstFeed, LinesState, NoFeedAhead, feeds, fresh, piece_of, pieces_of, to_go};
@@ -88,6 +88,13 @@ impl Lines {
             Some(at) => self.give_line(at),
             None => self.take_line(source),
         }
+    }
+
+    /// Whether a whole line is held, so that the next call gives it and reads nothing.
+    pub fn holds_line(&self) -> bool
+        ensures { IsTrue result ↔ (0 < feeds self.now.held) }
+    {
+        first_feed(self.block.held()).is_some()
     }
 
     /// Takes bytes until a line is whole or the source is at its end, and gives what is then the next piece.

@@ -1,0 +1,56 @@
+//! The program: the words of its command line say what is done, the script comes from standard input, and the text goes to
+//! standard output.
+#![tactic(auto)]
+
+mod devices;
+
+use crate::devices::{StdinSource, StdoutSink};
+use ltx_model::memory::NoMemory;
+use ltx_outside::MemDisk;
+use ltx_top::{Status, run};
+use std::io::ErrorKind;
+use std::process::ExitCode;
+use std::{env, io};
+
+/// What is printed on standard error where the words are no command.
+const USAGE: &str = "usage: ltx_run run | recover | threads N | drive START COUNT";
+
+/// The words of the command line, without the program's name.
+fn words_of(rt: &HostRuntime) -> io::Result<Vec<String>> {
+    let mut words = Vec::new(rt.alloc());
+    for word in env::args(rt)?.skip(1) {
+        words.push(word)?;
+    }
+    Ok(words)
+}
+
+/// Carries out words.
+fn carry_out(rt: &HostRuntime, words: &[String]) -> Result<Status, NoMemory> {
+    let alloc = rt.alloc();
+    let mut source = StdinSource::new(rt);
+    let mut sink = StdoutSink::new(rt);
+    let mut disk = MemDisk::new(Vec::new(alloc), 0, Vec::new(alloc))?;
+    Ok(run(alloc, words, &mut source, &mut disk, &mut sink))
+}
+
+/// The exit status. Words that are no text are no command.
+fn status(rt: &HostRuntime) -> u8 {
+    match words_of(rt) {
+        Ok(words) => match carry_out(rt, &words) {
+            Ok(status) => status.number,
+            Err(NoMemory) => 3,
+        },
+        Err(error) => match error.kind() {
+            ErrorKind::OutOfMemory => 3,
+            _ => 2,
+        },
+    }
+}
+
+fn main(rt: HostRuntime) -> ExitCode {
+    let status = status(&rt);
+    if status == 2 {
+        let _ = eprintln!(rt; "{USAGE}");
+    }
+    ExitCode::from(status)
+}

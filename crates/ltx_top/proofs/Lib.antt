@@ -1,0 +1,6 @@
+pub mod Fronts
+pub mod Lines
+pub mod Printable
+pub mod OneWord
+pub mod Steps
+pub mod Results

@@ -1,0 +1,357 @@
+-- What a call in a run leaves, by what it returned.
+use Rattle.std.proofs.Common.{◌≡◌, ◌≢◌, ℕ, ◌+◌, ◌<◌, ◌≤◌, Bool, true, false, ◌||◌, ◌⊎◌, List, [], ◌∷◌, ◌++◌, map, length, take, Option, Some, None, Result, Ok, Err, IfSome, IfOk, IfErr, OnOk, OnErr, IsErrOf, refl, sym, ap, ◌∙◌, subst, arith, inl, inr}
+use Rattle.std.proofs.lemmas.Bool.{cases_lt}
+use Rattle.std.proofs.lemmas.List.{length-map}
+use Rattle.std.specs.Io.KnownBytes.{Appends, IsAtEnd}
+use Rattle.ltx_model.specs.declared.commands.Line.{Line}
+use Rattle.ltx_model.specs.declared.replies.Entry.{Entry}
+use Rattle.ltx_model.specs.declared.replies.Reply.{Reply}
+use Rattle.ltx_model.specs.States.{Base, order}
+use Rattle.ltx_model.specs.Histories.{state}
+use Rattle.ltx_model.specs.Answers.{IsLegalWith, staged}
+use Rattle.ltx_outside.specs.Faults.{Rose}
+use Rattle.ltx_outside.proofs.Counts.{Rose-earlier, Rose-later}
+use Rattle.ltx_core.specs.Built.{built}
+use Rattle.ltx_core.specs.Notes.{CoreView}
+use Rattle.ltx_core.specs.Stands.{StandsFor}
+use Rattle.ltx_text.specs.Lines.{LinesState, Cuts, NoFeedAhead, feeds, fresh, to_go}
+use Rattle.ltx_text.proofs.LineRuns.{fewer_to_go}
+use Rattle.ltx_top.specs.declared.status.Stop.{Stop}
+use Rattle.ltx_top.specs.declared.status.Stop.TheVariants as stops
+use Rattle.ltx_top.specs.Transcripts.{empty_base, line_of_piece, entry_text, ending, ending_of}
+use Rattle.ltx_top.specs.Runs.{most_of_script, took, is_bad, Ran}
+use Rattle.ltx_top.specs.Endings.{Stops, status_number}
+use Rattle.ltx_top.specs.Progress.{Devices, Hand, Progress, Halted, Ends, RoseAt, line_in}
+use Rattle.ltx_top.proofs.Steps.{handed, half_handed, taken_line, answered_line, lost_line, halt, source_failed, source_passed, took_past, took_short, progress_within, halted_within, ran, ending_stopped, halted_stopped, halted_stops, started}
+
+not_past : (a b : ℕ) → (a < b → ⊥) → b ≤ a
+not_past a b refuted = elim (cases_lt a b) [ inl p ↦ absurd (refuted p) | inr p ↦ p ]
+
+-- ---- a stop that is the sink's
+
+pub way_stops : (stop : Stop) → stop ≡ stops.Sink → (left before after : Option (List ℕ)) (hand : Hand) (pending : List Line) (text : List ℕ) (n : ℕ) → Appends before after (take n hand.text)
+    → (start : Devices) → Progress start (record { left = left; written = before }) hand pending → Ends stop start (record { left = left; written = after }) text
+way_stops stop is left before after hand pending text n out start p =
+    subst (λ (s : Stop). Ends s start (record { left = left; written = after }) text) (sym is) (half_handed start left before after hand pending n out p)
+
+pub way_rose : (stop : Stop) → stop ≡ stops.Sink → (s s' k k' : ℕ) → Rose k k' → RoseAt stop s s' k k'
+way_rose stop is s s' k k' rose = subst (λ (x : Stop). RoseAt x s s' k k') (sym is) rose
+
+-- ---- a line is taken
+
+module _ (before after w0 w1 : Option (List ℕ)) (reader next : LinesState) (core : CoreView) (text0 text1 done : List ℕ) (malformed : Bool)
+    (out : Appends w0 w1 done) (parts : done ++ text1 ≡ text0) (limit : next.limit ≡ reader.limit) where
+  abbrev Begins : Devices → Type 0
+  Begins start = Progress start (record { left = before; written = w0 }) (record { reader = reader; core = core; text = text0; malformed = malformed }) []
+
+  begins : (start : Devices) → Begins start → Progress start (record { left = before; written = w1 }) (record { reader = reader; core = core; text = text1; malformed = malformed }) []
+  begins start p = handed start before w0 w1 reader core text0 text1 done malformed [] out parts p
+
+  pub took_on : (r : Result (Option Line) Stop) → IfOk r (λ line. (gave : List (Option (List ℕ))) × Cuts reader next before after gave × (map line_of_piece gave ≡ line_in line))
+      → (next.limit < next.taken → IsErrOf r stops.TooMuch)
+      → IfOk r (λ line. (start : Devices) → Begins start → Progress start (record { left = after; written = w1 }) (record { reader = next; core = core; text = text1; malformed = malformed }) (line_in line))
+  took_on (Ok line) gave past = λ start p.
+      taken_line start before after w1 reader next core text1 malformed gave.0 (line_in line) gave.1 gave.2 limit (not_past next.limit next.taken (λ over. let e = past over in cc)) (begins start p)
+  took_on (Err stop) gave past = tt
+
+  pub took_stops : (r : Result (Option Line) Stop) → (IsErrOf r stops.NoMemory → (gave : List (Option (List ℕ))) × Cuts reader next before after gave)
+      → (IsErrOf r stops.Source → Cuts reader next before after [] × (feeds reader.held ≡ 0) × (feeds next.held ≡ 0))
+      → (IsErrOf r stops.TooMuch → Cuts reader next before after [] × (next.limit < next.taken))
+      → (IsErrOf r stops.TooMuch → reader.taken ≤ reader.limit → (feeds reader.held ≡ 0) × NoFeedAhead reader before)
+      → (next.limit < next.taken → IsErrOf r stops.TooMuch) → (IsErrOf r stops.Sink → ⊥)
+      → (feeds reader.held ≡ 0 → text1 ≡ [])
+      → IfErr r (λ stop. (start : Devices) → Begins start → Ends stop start (record { left = after; written = w1 }) text1)
+  took_stops (Ok line) lost failed passed below past other ready = tt
+  took_stops (Err stops.NoMemory) lost failed passed below past other ready = λ start p.
+      let gave = lost refl in lost_line start before after w1 reader next core text1 malformed gave.0 gave.1 limit (not_past next.limit next.taken (λ over. let e = past over in cc)) (begins start p)
+  took_stops (Err stops.Source) lost failed passed below past other ready = λ start p.
+      let fail = failed refl in
+      let within : next.taken ≤ next.limit = not_past next.limit next.taken (λ over. let e = past over in cc) in (
+        source_failed start before after w1 reader next core text1 malformed fail.0 limit within fail.2 (ready fail.1) (begins start p),
+        took_short start before after w1 reader next core text1 malformed fail.0 limit within (begins start p),
+      )
+  took_stops (Err stops.Sink) lost failed passed below past other ready = absurd (other refl)
+  took_stops (Err stops.TooMuch) lost failed passed below past other ready = λ start p.
+      let pass = passed refl in (
+        source_passed start before after w1 reader next core text1 malformed pass.0 limit pass.1 (ready (below refl (omega (arith, (begins start p).within, (begins start p).limit))).0) (below refl) (begins start p),
+        took_past start before after w1 reader next core text1 malformed pass.0 limit pass.1 (begins start p),
+      )
+
+pub took_rose : (r : Result (Option Line) Stop) (s s' k k' : ℕ) → (IsErrOf r stops.Source → Rose s s') → (IsErrOf r stops.Sink → ⊥) → IfErr r (λ stop. RoseAt stop s s' k k')
+took_rose (Ok line) s s' k k' rose other = tt
+took_rose (Err stops.NoMemory) s s' k k' rose other = tt
+took_rose (Err stops.Source) s s' k k' rose other = rose refl
+took_rose (Err stops.Sink) s s' k k' rose other = absurd (other refl)
+took_rose (Err stops.TooMuch) s s' k k' rose other = tt
+
+pub took_less : (r : Result (Option Line) Stop) (before after : Option (List ℕ)) (reader next : LinesState) → IfOk r (λ line. (gave : List (Option (List ℕ))) × Cuts reader next before after gave × (map line_of_piece gave ≡ line_in line))
+    → next.taken ≤ next.limit + 1 → next.limit ≡ reader.limit → IfOk r (λ line. (l : Line) → line ≡ Some l → to_go next < to_go reader)
+took_less (Ok line) before after reader next gave least limit = λ l is.
+    let one : length gave.0 ≡ 1 = sym (length-map gave.0 line_of_piece) ∙ ap length (gave.2 ∙ ap line_in is) in
+    omega (arith, fewer_to_go reader next before after gave.0 gave.1 least limit, one)
+took_less (Err stop) before after reader next gave least limit = tt
+
+-- ---- a line is answered
+
+pub unserved : (left written : Option (List ℕ)) (reader : LinesState) (core : CoreView) (text kept : List ℕ) (malformed : Bool) (pending : List Line) → kept ≡ text → (start : Devices)
+    → Progress start (record { left = left; written = written }) (record { reader = reader; core = core; text = text; malformed = malformed }) pending
+    → Halted start (record { left = left; written = written }) kept
+unserved left written reader core text kept malformed pending same start p =
+    subst (λ (t : List ℕ). Halted start (record { left = left; written = written }) t) (sym same) (halt start (record { left = left; written = written }) (record { reader = reader; core = core; text = text; malformed = malformed }) pending p)
+
+module _ (w0 w1 : Option (List ℕ)) (reader : LinesState) (core next : CoreView) (text0 text1 text2 : List ℕ) (malformed after : Bool) (line : Line) (reply : Reply)
+    (is : (history : List Entry) → IsLegalWith built empty_base history → StandsFor core empty_base history → reply ≡ staged built (state empty_base history) line)
+    (stands : (history : List Entry) → IsLegalWith built empty_base history → StandsFor core empty_base history → StandsFor next empty_base (history ++ record { line = line; reply = reply } ∷ []))
+    (printed : text1 ≡ text0 ++ entry_text (record { line = line; reply = reply })) (noted : after ≡ (malformed || is_bad reply)) where
+  abbrev Pends : Devices → Option (List ℕ) → Type 0
+  Pends start left = Progress start (record { left = left; written = w0 }) (record { reader = reader; core = core; text = text0; malformed = malformed }) (line ∷ [])
+
+  served : (start : Devices) (left : Option (List ℕ)) → Pends start left → Progress start (record { left = left; written = w0 }) (record { reader = reader; core = next; text = text1; malformed = after }) []
+  served start left p =
+      subst (λ (t : List ℕ). Progress start (record { left = left; written = w0 }) (record { reader = reader; core = next; text = t; malformed = after }) []) (sym printed)
+      (subst (λ (b : Bool). Progress start (record { left = left; written = w0 }) (record { reader = reader; core = next; text = text0 ++ entry_text (record { line = line; reply = reply }); malformed = b }) []) (sym noted)
+      (answered_line start (record { left = left; written = w0 }) reader core next text0 malformed line reply is stands p))
+
+  pub served_on : {T : Type 0} (r : Result T Stop) → OnOk r ((done : List ℕ) × Appends w0 w1 done × (done ++ text2 ≡ text1))
+      → OnOk r ((start : Devices) (left : Option (List ℕ)) → Pends start left → Progress start (record { left = left; written = w1 }) (record { reader = reader; core = next; text = text2; malformed = after }) [])
+  served_on (Ok x) whole = λ start left p. handed start left w0 w1 reader next text1 text2 whole.0 after [] whole.1 whole.2 (served start left p)
+  served_on (Err stop) whole = tt
+
+  pub served_stops : {T : Type 0} (r : Result T Stop) → IfErr r (λ stop. stop ≡ stops.Sink) → ((n : ℕ) × Appends w0 w1 (take n text1))
+      → IfErr r (λ stop. (start : Devices) (left : Option (List ℕ)) → Pends start left → Ends stop start (record { left = left; written = w1 }) text2)
+  served_stops (Ok x) cause front = tt
+  served_stops (Err stop) cause front = λ start left p.
+      way_stops stop cause left w0 w1 (record { reader = reader; core = next; text = text1; malformed = after }) [] text2 front.0 front.1 start (served start left p)
+
+pub served_rose : {T : Type 0} (r : Result T Stop) (k k' : ℕ) → IfErr r (λ stop. stop ≡ stops.Sink) → OnErr r (Rose k k') → IfErr r (λ stop. (s s' : ℕ) → RoseAt stop s s' k k')
+served_rose (Ok x) k k' cause rose = tt
+served_rose (Err stop) k k' cause rose = λ s s'. way_rose stop cause s s' k k' rose
+
+-- ---- counts over several calls
+
+pub rose_later : (stop : Stop) (s s' a b c : ℕ) → a ≤ b → ((x y : ℕ) → RoseAt stop x y b c) → RoseAt stop s s' a c
+rose_later stops.NoMemory s s' a b c less rose = tt
+rose_later stops.Source s s' a b c less rose = rose s s'
+rose_later stops.Sink s s' a b c less rose = Rose-later a b c less (rose s s')
+rose_later stops.TooMuch s s' a b c less rose = tt
+
+pub rose_past : (stop : Stop) (a b c k l m : ℕ) → a ≤ b → k ≤ l → RoseAt stop b c l m → RoseAt stop a c k m
+rose_past stops.NoMemory a b c k l m less fewer rose = tt
+rose_past stops.Source a b c k l m less fewer rose = Rose-later a b c less rose
+rose_past stops.Sink a b c k l m less fewer rose = Rose-later k l m fewer rose
+rose_past stops.TooMuch a b c k l m less fewer rose = tt
+
+pub rose_before : (stop : Stop) (s s' a b c : ℕ) → b ≤ c → RoseAt stop s s' a b → RoseAt stop s s' a c
+rose_before stops.NoMemory s s' a b c less rose = tt
+rose_before stops.Source s s' a b c less rose = rose
+rose_before stops.Sink s s' a b c less rose = Rose-earlier a b c rose less
+rose_before stops.TooMuch s s' a b c less rose = tt
+
+-- ---- the end
+
+module _ (before after : Option (List ℕ)) (hand : Hand) (text : List ℕ)
+    (ends : (history : List Entry) → StandsFor hand.core empty_base history → text ≡ hand.text ++ ending_of (state empty_base history)) where
+  pub closed_ran : {T : Type 0} (r : Result T Stop) (kept : List ℕ) → OnOk r (Appends before after text × (kept ≡ []))
+      → OnOk r ((start : Devices) (left : Option (List ℕ)) → hand.reader.held ≡ [] → IsAtEnd left → Progress start (record { left = left; written = before }) hand [] → Ran start.left left start.written after hand.malformed)
+  closed_ran (Ok x) kept out = λ start left none end p. ran start left before after hand text none end ends out.0 p
+  closed_ran (Err stop) kept out = tt
+
+  pub closed_stops : {T : Type 0} (r : Result T Stop) → IfErr r (λ stop. stop ≡ stops.Sink) → ((n : ℕ) × Appends before after (take n text))
+      → IfErr r (λ stop. (start : Devices) (left : Option (List ℕ)) → Progress start (record { left = left; written = before }) hand [] → Stops stop start.left left start.written after)
+  closed_stops (Ok x) cause front = tt
+  closed_stops (Err stop) cause front = λ start left p.
+      subst (λ (s : Stop). Stops s start.left left start.written after) (sym cause)
+      (ending_stopped start left before after hand text front.0 ends front.1 p, progress_within start (record { left = left; written = before }) hand [] p)
+
+-- the text in hand is given up
+pub halted_end : (start : Devices) (left before after : Option (List ℕ)) (rest : List ℕ) → ((n : ℕ) × Appends before after (take n rest)) → Halted start (record { left = left; written = before }) rest
+    → Stops stops.NoMemory start.left left start.written after
+halted_end start left before after rest front h = (halted_stopped start left before after rest front.0 front.1 h, halted_within start (record { left = left; written = before }) rest h)
+
+-- the ending is in hand
+pub closed : {T E : Type 0} (r : Result T E) (old new : List ℕ) (core : CoreView) (txs : List ℕ) (durable : ℕ) → OnOk r (new ≡ old ++ ending txs durable)
+    → ((base : Base) (history : List Entry) → StandsFor core base history → txs ≡ order (state base history)) → ((base : Base) (history : List Entry) → StandsFor core base history → durable ≡ (state base history).durable)
+    → OnOk r ((history : List Entry) → StandsFor core empty_base history → new ≡ old ++ ending_of (state empty_base history))
+closed (Ok x) old new core txs durable put is lasts = λ history stands. put ∙ (λ i. old ++ ending (is empty_base history stands i) (lasts empty_base history stands i))
+closed (Err e) old new core txs durable put is lasts = tt
+
+-- the ending found no memory, and the text in hand is given up
+pub unclosed : (stop : Stop) → stop ≡ stops.NoMemory → (before after : Option (List ℕ)) (hand : Hand) (kept : List ℕ) → kept ≡ hand.text → ((n : ℕ) × Appends before after (take n kept))
+    → (start : Devices) (left : Option (List ℕ)) → Progress start (record { left = left; written = before }) hand [] → Stops stop start.left left start.written after
+unclosed stop is before after hand kept same front start left p =
+    subst (λ (s : Stop). Stops s start.left left start.written after) (sym is)
+    (halted_end start left before after hand.text (front.0, subst (λ (t : List ℕ). Appends before after (take front.0 t)) same front.1) (halt start (record { left = left; written = before }) hand [] p))
+
+pub gave_up : (stop : Stop) → stop ≡ stops.NoMemory → (start : Devices) (left before after : Option (List ℕ)) (rest : List ℕ) → ((n : ℕ) × Appends before after (take n rest)) → Halted start (record { left = left; written = before }) rest
+    → Stops stop start.left left start.written after
+gave_up stop is start left before after rest front h = subst (λ (s : Stop). Stops s start.left left start.written after) (sym is) (halted_end start left before after rest front h)
+
+pub calm_rose : (stop : Stop) → stop ≡ stops.NoMemory → (s s' k k' : ℕ) → RoseAt stop s s' k k'
+calm_rose stop is s s' k k' = subst (λ (x : Stop). RoseAt x s s' k k') (sym is) tt
+
+-- all lines were answered, and the ending was printed, or not
+module _ (Began : Devices → Type 0) (left before after : Option (List ℕ)) (hand : Hand) (on : (start : Devices) → Began start → Progress start (record { left = left; written = before }) hand []) where
+  pub worked_ran : {T : Type 0} (r : Result T Stop) (bad : Bool) → bad ≡ hand.malformed → hand.reader.held ≡ [] → IsAtEnd left
+      → OnOk r ((start : Devices) (left : Option (List ℕ)) → hand.reader.held ≡ [] → IsAtEnd left → Progress start (record { left = left; written = before }) hand [] → Ran start.left left start.written after hand.malformed)
+      → OnOk r ((start : Devices) → Began start → Ran start.left left start.written after bad × (took start.left left ≤ most_of_script))
+  worked_ran (Ok x) bad same none end ran = λ start p.
+      (subst (λ (b : Bool). Ran start.left left start.written after b) (sym same) (ran start left none end (on start p)), progress_within start (record { left = left; written = before }) hand [] (on start p))
+  worked_ran (Err stop) bad same none end ran = tt
+
+  pub worked_stops : {T : Type 0} (r : Result T Stop) → IfErr r (λ stop. (start : Devices) (left : Option (List ℕ)) → Progress start (record { left = left; written = before }) hand [] → Stops stop start.left left start.written after)
+      → IfErr r (λ stop. (start : Devices) → Began start → Stops stop start.left left start.written after)
+  worked_stops (Ok x) halts = tt
+  worked_stops (Err stop) halts = λ start p. halts start left (on start p)
+
+pub worked_rose : {T : Type 0} (r : Result T Stop) (s s' k l m : ℕ) → k ≤ l → IfErr r (λ stop. (x y : ℕ) → RoseAt stop x y l m) → IfErr r (λ stop. RoseAt stop s s' k m)
+worked_rose (Ok x) s s' k l m less rose = tt
+worked_rose (Err stop) s s' k l m less rose = rose_later stop s s' k l m less rose
+
+-- a whole run starts
+pub started_with : (left written : Option (List ℕ)) (hand : Hand) → hand.reader ≡ fresh most_of_script → StandsFor hand.core empty_base [] → hand.text ≡ [] → hand.malformed ≡ false
+    → Progress (record { left = left; written = written }) (record { left = left; written = written }) hand []
+started_with left written hand same stands none calm =
+    subst (λ (b : Bool). Progress (record { left = left; written = written }) (record { left = left; written = written }) (record { reader = hand.reader; core = hand.core; text = hand.text; malformed = b }) []) (sym calm)
+    (subst (λ (t : List ℕ). Progress (record { left = left; written = written }) (record { left = left; written = written }) (record { reader = hand.reader; core = hand.core; text = t; malformed = false }) []) (sym none)
+    (started left written hand.reader hand.core same stands))
+
+-- a stop that leaves nothing to hand over
+pub end_stops : (stop : Stop) (start now : Devices) (text : List ℕ) → Ends stop start now text → Stops stop start.left now.left start.written now.written
+end_stops stops.NoMemory start now text h = (halted_stops start now text h, halted_within start now text h)
+end_stops stops.Source start now text e = e
+end_stops stops.Sink start now text e = (halted_stops start now e.0 e.1, halted_within start now e.0 e.1)
+end_stops stops.TooMuch start now text e = e
+
+-- ---- the number of each ending
+
+module _ (left_old left_new written_old written_new : Option (List ℕ)) (r : Result Bool Stop)
+    (on : IfOk r (λ bad. Ran left_old left_new written_old written_new bad × (took left_old left_new ≤ most_of_script)))
+    (halts : IfErr r (λ stop. Stops stop left_old left_new written_old written_new)) where
+  pub number_ran : (bad : Bool) → status_number r ≡ status_number (Ok bad) → Ran left_old left_new written_old written_new bad
+  number_ran bad is = by_result r bad on is where
+    by_result : (x : Result Bool Stop) (b : Bool) → IfOk x (λ bad. Ran left_old left_new written_old written_new bad × (took left_old left_new ≤ most_of_script)) → status_number x ≡ status_number (Ok b) → Ran left_old left_new written_old written_new b
+    by_result (Ok false) false on e = on.0
+    by_result (Ok true) true on e = on.0
+    by_result (Ok false) true on e = absurd (omega (arith, e))
+    by_result (Ok true) false on e = absurd (omega (arith, e))
+    by_result (Err stops.NoMemory) false on e = absurd (omega (arith, e))
+    by_result (Err stops.NoMemory) true on e = absurd (omega (arith, e))
+    by_result (Err stops.Source) false on e = absurd (omega (arith, e))
+    by_result (Err stops.Source) true on e = absurd (omega (arith, e))
+    by_result (Err stops.Sink) false on e = absurd (omega (arith, e))
+    by_result (Err stops.Sink) true on e = absurd (omega (arith, e))
+    by_result (Err stops.TooMuch) false on e = absurd (omega (arith, e))
+    by_result (Err stops.TooMuch) true on e = absurd (omega (arith, e))
+
+  pub number_stops : (stop : Stop) → status_number r ≡ status_number (Err stop) → Stops stop left_old left_new written_old written_new
+  number_stops stop is = by_result r stop halts is where
+    by_result : (x : Result Bool Stop) (s : Stop) → IfErr x (λ stop. Stops stop left_old left_new written_old written_new) → status_number x ≡ status_number (Err s) → Stops s left_old left_new written_old written_new
+    by_result (Err stops.NoMemory) stops.NoMemory h e = h
+    by_result (Err stops.Source) stops.Source h e = h
+    by_result (Err stops.Sink) stops.Sink h e = h
+    by_result (Err stops.TooMuch) stops.TooMuch h e = h
+    by_result (Ok false) stops.NoMemory h e = absurd (omega (arith, e))
+    by_result (Ok false) stops.Source h e = absurd (omega (arith, e))
+    by_result (Ok false) stops.Sink h e = absurd (omega (arith, e))
+    by_result (Ok false) stops.TooMuch h e = absurd (omega (arith, e))
+    by_result (Ok true) stops.NoMemory h e = absurd (omega (arith, e))
+    by_result (Ok true) stops.Source h e = absurd (omega (arith, e))
+    by_result (Ok true) stops.Sink h e = absurd (omega (arith, e))
+    by_result (Ok true) stops.TooMuch h e = absurd (omega (arith, e))
+    by_result (Err stops.NoMemory) stops.Source h e = absurd (omega (arith, e))
+    by_result (Err stops.NoMemory) stops.Sink h e = absurd (omega (arith, e))
+    by_result (Err stops.NoMemory) stops.TooMuch h e = absurd (omega (arith, e))
+    by_result (Err stops.Source) stops.NoMemory h e = absurd (omega (arith, e))
+    by_result (Err stops.Source) stops.Sink h e = absurd (omega (arith, e))
+    by_result (Err stops.Source) stops.TooMuch h e = absurd (omega (arith, e))
+    by_result (Err stops.Sink) stops.NoMemory h e = absurd (omega (arith, e))
+    by_result (Err stops.Sink) stops.Source h e = absurd (omega (arith, e))
+    by_result (Err stops.Sink) stops.TooMuch h e = absurd (omega (arith, e))
+    by_result (Err stops.TooMuch) stops.NoMemory h e = absurd (omega (arith, e))
+    by_result (Err stops.TooMuch) stops.Source h e = absurd (omega (arith, e))
+    by_result (Err stops.TooMuch) stops.Sink h e = absurd (omega (arith, e))
+
+  -- where more was taken than a script may have, the number is 9
+  pub number_past : most_of_script < took left_old left_new → status_number r ≡ 9
+  number_past past = by_result r on halts where
+    by_result : (x : Result Bool Stop) → IfOk x (λ bad. Ran left_old left_new written_old written_new bad × (took left_old left_new ≤ most_of_script)) → IfErr x (λ stop. Stops stop left_old left_new written_old written_new) → status_number x ≡ 9
+    by_result (Ok bad) on halts = absurd (omega (arith, past, on.1))
+    by_result (Err stops.NoMemory) on halts = absurd (omega (arith, past, halts.1))
+    by_result (Err stops.Source) on halts = absurd (omega (arith, past, halts.1))
+    by_result (Err stops.Sink) on halts = absurd (omega (arith, past, halts.1))
+    by_result (Err stops.TooMuch) on halts = refl
+
+pub number_rose : (r : Result Bool Stop) (s s' k k' : ℕ) → IfErr r (λ stop. RoseAt stop s s' k k') → (stop : Stop) → status_number r ≡ status_number (Err stop) → RoseAt stop s s' k k'
+number_rose (Err stops.NoMemory) s s' k k' rose stop e = by_stop stop e where
+  by_stop : (x : Stop) → 3 ≡ status_number (Err x) → RoseAt x s s' k k'
+  by_stop stops.NoMemory e = tt
+  by_stop stops.Source e = absurd (omega (arith, e))
+  by_stop stops.Sink e = absurd (omega (arith, e))
+  by_stop stops.TooMuch e = tt
+number_rose (Err stops.Source) s s' k k' rose stop e = by_stop stop e where
+  by_stop : (x : Stop) → 4 ≡ status_number (Err x) → RoseAt x s s' k k'
+  by_stop stops.NoMemory e = tt
+  by_stop stops.Source e = rose
+  by_stop stops.Sink e = absurd (omega (arith, e))
+  by_stop stops.TooMuch e = tt
+number_rose (Err stops.Sink) s s' k k' rose stop e = by_stop stop e where
+  by_stop : (x : Stop) → 5 ≡ status_number (Err x) → RoseAt x s s' k k'
+  by_stop stops.NoMemory e = tt
+  by_stop stops.Source e = absurd (omega (arith, e))
+  by_stop stops.Sink e = rose
+  by_stop stops.TooMuch e = tt
+number_rose (Err stops.TooMuch) s s' k k' rose stop e = by_stop stop e where
+  by_stop : (x : Stop) → 9 ≡ status_number (Err x) → RoseAt x s s' k k'
+  by_stop stops.NoMemory e = tt
+  by_stop stops.Source e = absurd (omega (arith, e))
+  by_stop stops.Sink e = absurd (omega (arith, e))
+  by_stop stops.TooMuch e = tt
+number_rose (Ok false) s s' k k' rose stop e = by_stop stop e where
+  by_stop : (x : Stop) → 0 ≡ status_number (Err x) → RoseAt x s s' k k'
+  by_stop stops.NoMemory e = tt
+  by_stop stops.Source e = absurd (omega (arith, e))
+  by_stop stops.Sink e = absurd (omega (arith, e))
+  by_stop stops.TooMuch e = tt
+number_rose (Ok true) s s' k k' rose stop e = by_stop stop e where
+  by_stop : (x : Stop) → 1 ≡ status_number (Err x) → RoseAt x s s' k k'
+  by_stop stops.NoMemory e = tt
+  by_stop stops.Source e = absurd (omega (arith, e))
+  by_stop stops.Sink e = absurd (omega (arith, e))
+  by_stop stops.TooMuch e = tt
+
+-- each number is one of six, and none of them is 2
+pub number_known : (r : Result Bool Stop) → status_number r ≢ 2
+number_known (Ok false) e = omega (arith, e)
+number_known (Ok true) e = omega (arith, e)
+number_known (Err stops.NoMemory) e = omega (arith, e)
+number_known (Err stops.Source) e = omega (arith, e)
+number_known (Err stops.Sink) e = omega (arith, e)
+number_known (Err stops.TooMuch) e = omega (arith, e)
+
+pub number_bound : (r : Result Bool Stop) → (status_number r ≤ 5) ⊎ (status_number r ≡ 9)
+number_bound (Ok false) = inl (omega arith)
+number_bound (Ok true) = inl (omega arith)
+number_bound (Err stops.NoMemory) = inl (omega arith)
+number_bound (Err stops.Source) = inl (omega arith)
+number_bound (Err stops.Sink) = inl (omega arith)
+number_bound (Err stops.TooMuch) = inr refl
+
+took_few : (bytes : List ℕ) (new : Option (List ℕ)) → took (Some bytes) new ≤ length bytes
+took_few bytes None = omega arith
+took_few bytes (Some rest) = omega arith
+
+pub took_nothing : (left : Option (List ℕ)) → took left left ≡ 0
+took_nothing None = refl
+took_nothing (Some bytes) = omega arith
+
+-- with no fault and a script of at most this length
+pub number_complete : (old new written_old written_new : Option (List ℕ)) (s s' k k' : ℕ) (r : Result Bool Stop) → IfErr r (λ stop. Stops stop old new written_old written_new) → IfErr r (λ stop. RoseAt stop s s' k k')
+    → (Rose s s' → ⊥) → (Rose k k' → ⊥) → (bytes : List ℕ) → old ≡ Some bytes → length bytes ≤ most_of_script → (status_number r ≤ 1) ⊎ (status_number r ≡ 3)
+number_complete old new written_old written_new s s' k k' (Ok false) halts rose still calm bytes is few = inl (omega arith)
+number_complete old new written_old written_new s s' k k' (Ok true) halts rose still calm bytes is few = inl (omega arith)
+number_complete old new written_old written_new s s' k k' (Err stops.NoMemory) halts rose still calm bytes is few = inr refl
+number_complete old new written_old written_new s s' k k' (Err stops.Source) halts rose still calm bytes is few = absurd (still rose)
+number_complete old new written_old written_new s s' k k' (Err stops.Sink) halts rose still calm bytes is few = absurd (calm rose)
+number_complete old new written_old written_new s s' k k' (Err stops.TooMuch) halts rose still calm bytes is few =
+    let past : most_of_script < took (Some bytes) new = subst (λ (o : Option (List ℕ)). IfSome o (λ b. most_of_script < took o new)) is halts.1 in
+    absurd (omega (arith, past, took_few bytes new, few))

@@ -1,0 +1,19 @@
+use Rattle.std.proofs.Common.{sym, subst}
+use Rattle.ltx_model.specs.declared.replies.Reply.{Reply}
+use Rattle.ltx_core.specs.Built.{built}
+use Rattle.ltx_reply.specs.Texts.{IsReply}
+use Rattle.ltx_top.specs.Transcripts.{empty_base}
+use Rattle.ltx_top.proofs.Printable.{answers_print}
+use Rattle.ltx_top.proofs.Steps.{empty_sound}
+use Rattle.ltx_top.proofs.turns.serve.Goals as goal
+
+pub put_entry-requires : goal.put_entry-requires
+put_entry-requires c =
+    let h = c.requires.under_way in
+    record { kept = subst (λ (r : Reply). IsReply r) (sym (c.in_ok-reply.ensures.reply empty_base h.history empty_sound h.legal h.stands)) (answers_print built empty_base h.history c.args.line.now empty_sound h.legal) }
+
+pub returns-clause-reply : goal.returns-clause-reply
+returns-clause-reply c = λ history legal stands. c.in_ok-reply.ensures.reply empty_base history empty_sound legal stands
+
+pub returns-clause-stands : goal.returns-clause-stands
+returns-clause-stands c = λ history legal stands. c.in_ok-reply.ensures.stands empty_base history empty_sound legal stands

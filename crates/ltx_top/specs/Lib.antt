@@ -1,0 +1,5 @@
+pub mod Transcripts
+pub mod Runs
+pub mod Endings
+pub mod Progress
+pub mod Hands

@@ -1,0 +1,43 @@
+//! A line and its reply.
+
+ghost use Rattle.std.specs.Prelude.{◌≡◌, List, [], ◌∷◌, ◌++◌, IfOk, OnErr};
+ghost use Rattle.ltx_model.specs.declared.commands.Line.TheVariants.{Good};
+ghost use Rattle.ltx_model.specs.declared.replies.Entry.{Entry};
+ghost use Rattle.ltx_model.specs.States.{Base, IsSound};
+ghost use Rattle.ltx_model.specs.Histories.{state};
+ghost use Rattle.ltx_model.specs.Answers.{IsLegalWith, staged};
+ghost use Rattle.ltx_core.specs.Built.{built};
+ghost use Rattle.ltx_core.specs.Stands.{StandsFor};
+
+use ltx_core::Core;
+use ltx_model::commands::{Command, Line};
+use ltx_model::memory::NoMemory;
+use ltx_model::replies::Reply;
+
+/// Answers a command. `flush` is not built yet. After `NoMemory` the core is as before.
+fn answer_command(core: &mut Core, command: &Command) -> Result<Reply, NoMemory>
+    ensures reply { IfOk result (λ reply. (base : Base) (history : List Entry) → IsSound base → IsLegalWith built base history → StandsFor core.old base history
+        → reply ≡ staged built (state base history) (Good command.now)) }
+    ensures stands { IfOk result (λ reply. (base : Base) (history : List Entry) → IsSound base → IsLegalWith built base history → StandsFor core.old base history
+        → StandsFor core.new base (history ++ record { line = Good command.now; reply = reply } ∷ [])) }
+    ensures kept { OnErr result (core.new ≡ core.old) }
+{
+    match command {
+        Command::Flush => Ok(Reply::Later),
+        _ => core.step(command),
+    }
+}
+
+/// Answers a line. A malformed one is answered with its cause. After `NoMemory` the core is as before.
+pub(crate) fn answer(core: &mut Core, line: &Line) -> Result<Reply, NoMemory>
+    ensures reply { IfOk result (λ reply. (base : Base) (history : List Entry) → IsSound base → IsLegalWith built base history → StandsFor core.old base history
+        → reply ≡ staged built (state base history) line.now) }
+    ensures stands { IfOk result (λ reply. (base : Base) (history : List Entry) → IsSound base → IsLegalWith built base history → StandsFor core.old base history
+        → StandsFor core.new base (history ++ record { line = line.now; reply = reply } ∷ [])) }
+    ensures kept { OnErr result (core.new ≡ core.old) }
+{
+    match line {
+        Line::Bad(cause) => Ok(Reply::Bad(*cause)),
+        Line::Good(command) => answer_command(core, command),
+    }
+}
