@@ -1,0 +1,188 @@
+//! Known scripts with what is printed of each, as tables: tests of the top call over objects in memory.
+#![tactic(auto)]
+
+#[cfg(test)]
+mod tests {
+    use ltx_outside::{Disk, MemDisk, MemSink, MemSource, Sink, Source};
+    use ltx_top::run;
+    use std::alloc::Global;
+    use std::test::Fail;
+
+    /// The status of the top call, proved from the bounds alone.
+    fn call<S: Source, D: Disk, K: Sink>(
+        alloc: Global,
+        words: &[String],
+        source: &mut S,
+        disk: &mut D,
+        sink: &mut K,
+    ) -> u8 {
+        run(alloc, words, source, disk, sink).number
+    }
+
+    /// The status that words and a script give, and what is printed. The reads and writes of these numbers fail.
+    fn given(
+        alloc: Global,
+        words: &[&str],
+        script: Vec<u8>,
+        failing: &[u64],
+    ) -> Result<(u8, Vec<u8>), Fail> {
+        let mut spelt = Vec::new(alloc);
+        for word in words {
+            spelt.push(String::from_str(alloc, word)?)?;
+        }
+        let mut source = MemSource::new(script, Vec::from_slice(alloc, failing)?);
+        let mut disk = MemDisk::new(Vec::new(alloc), 0, Vec::from_slice(alloc, failing)?)?;
+        let mut sink = MemSink::new(alloc, 100_000, Vec::from_slice(alloc, failing)?)?;
+        let status = call(alloc, &spelt, &mut source, &mut disk, &mut sink);
+        Ok((status, Vec::from_slice(alloc, sink.written())?))
+    }
+
+    /// Appends a line and its line feed.
+    fn put_line(out: &mut Vec<u8>, line: &str) -> Result<(), Fail> {
+        out.extend_from_slice(line.as_bytes())?;
+        out.push(b'\n')?;
+        Ok(())
+    }
+
+    /// Appends an entry.
+    fn put_entry(out: &mut Vec<u8>, line: &str, reply: &str) -> Result<(), Fail> {
+        out.extend_from_slice(line.as_bytes())?;
+        out.extend_from_slice(b" => ")?;
+        put_line(out, reply)
+    }
+
+    /// Whether the lines are printed with these replies, and then this ending, at status 0.
+    fn is_printed(alloc: Global, rows: &[(&str, &str)], ending: &str) -> Result<bool, Fail> {
+        let mut script = Vec::new(alloc);
+        let mut text = Vec::new(alloc);
+        for (line, reply) in rows {
+            put_line(&mut script, line)?;
+            put_entry(&mut text, line, reply)?;
+        }
+        text.extend_from_slice(ending.as_bytes())?;
+        let (status, printed) = given(alloc, &["run"], script, &[])?;
+        Ok(status == 0 && printed.as_slice() == text.as_slice())
+    }
+
+    const A_READ_SEES_A_COMMIT: &[(&str, &str)] = &[
+        ("1 short", "begun 1"),
+        ("1 put 0 x a", "done"),
+        ("1 commit", "committed 1"),
+        ("2 short", "begun 2"),
+        ("2 get 0 x", "found a"),
+        ("2 commit", "committed 1"),
+    ];
+
+    const TWO_SHORTS_WRITE_ONE_KEY: &[(&str, &str)] = &[
+        ("1 short", "begun 1"),
+        ("1 put 0 x a", "done"),
+        ("1 commit", "committed 1"),
+        ("1 short", "begun 2"),
+        ("2 short", "begun 3"),
+        ("1 get 0 x", "found a"),
+        ("2 get 0 x", "found a"),
+        ("1 put 0 x b", "done"),
+        ("2 put 0 x c", "done"),
+        ("1 commit", "committed 1"),
+        ("2 commit", "changed 1 0 x 1 2"),
+    ];
+
+    const A_ROW_APPEARS_IN_A_SCANNED_RANGE: &[(&str, &str)] = &[
+        ("1 short", "begun 1"),
+        ("1 scan 0 a m", "rows 0"),
+        ("2 short", "begun 2"),
+        ("2 put 0 c v", "done"),
+        ("2 commit", "committed 1"),
+        ("1 put 0 z w", "done"),
+        ("1 commit", "changed 1 0 c none 2"),
+    ];
+
+    const OWN_WRITES_AND_ESCAPES: &[(&str, &str)] = &[
+        ("1 short", "begun 1"),
+        ("1 put 0 b 2", "done"),
+        ("1 put 0 a%20b %", "done"),
+        ("1 del 0 b", "done"),
+        ("1 get 0 b", "none"),
+        ("1 scan 0 % %", "rows 1 a%20b %"),
+        ("1 get 0 a%20b", "found %"),
+        ("1 commit", "committed 1"),
+    ];
+
+    #[test]
+    fn scripts_are_printed_with_their_replies(rt: HostRuntime) -> Result<(), Fail> {
+        let alloc = rt.alloc();
+        assert!(rt; is_printed(alloc, &[], "order\ndurable 0\n")?);
+        assert!(rt; is_printed(alloc, A_READ_SEES_A_COMMIT, "order 1 2\ndurable 0\n")?);
+        assert!(rt; is_printed(alloc, TWO_SHORTS_WRITE_ONE_KEY, "order 1 2\ndurable 0\n")?);
+        assert!(rt;
+            is_printed(
+                alloc,
+                A_ROW_APPEARS_IN_A_SCANNED_RANGE,
+                "order 2\ndurable 0\n"
+            )?
+        );
+        assert!(rt; is_printed(alloc, OWN_WRITES_AND_ESCAPES, "order 1\ndurable 0\n")?);
+        Ok(())
+    }
+
+    const BAD_LINES: &[(&str, &str)] = &[
+        ("", "bad words"),
+        ("1  short", "bad words"),
+        ("epoch 2", "bad words"),
+        ("0 short", "bad session"),
+        ("1025 short", "bad session"),
+        ("1", "bad verb"),
+        ("1 fly", "bad verb"),
+        ("1 get 0", "bad words"),
+        ("1 get 64 x", "bad table"),
+        ("1 get 0 a%2fb", "bad key"),
+        ("1 get 0 %41", "bad key"),
+        ("1 long W=1,1", "bad sets"),
+        ("1 long W=1 R=*", "bad sets"),
+    ];
+
+    #[test]
+    fn bad_lines_have_their_causes(rt: HostRuntime) -> Result<(), Fail> {
+        let alloc = rt.alloc();
+        let mut script = vec![in alloc; b'a'; 4_097]?;
+        put_line(&mut script, "")?;
+        let mut text = Vec::new(alloc);
+        put_entry(&mut text, "?", "bad long")?;
+        for (line, reply) in BAD_LINES {
+            put_line(&mut script, line)?;
+            put_entry(&mut text, "?", reply)?;
+        }
+        script.extend_from_slice(b"1 put 0 x ")?;
+        script.extend_from_slice(&vec![in alloc; b'v'; 1_025]?)?;
+        put_line(&mut script, "")?;
+        put_entry(&mut text, "?", "bad value")?;
+        put_line(&mut script, "1 get 0 x")?;
+        put_entry(&mut text, "1 get 0 x", "notx")?;
+        text.extend_from_slice(b"order\ndurable 0\n")?;
+        let (status, printed) = given(alloc, &["run"], script, &[])?;
+        assert_eq!(rt; status, 1);
+        assert_eq!(rt; printed.as_slice(), text.as_slice());
+        Ok(())
+    }
+
+    /// No device is called where the words are no command: each of them would fail.
+    #[test]
+    fn other_words_are_no_command(rt: HostRuntime) -> Result<(), Fail> {
+        let alloc = rt.alloc();
+        let others: [&[&str]; 7] = [
+            &[],
+            &["run", "now"],
+            &["threads", "0"],
+            &["threads", "17"],
+            &["threads", "02"],
+            &["drive", "7"],
+            &["drive", "7", "100001"],
+        ];
+        for words in others {
+            let (status, printed) = given(alloc, words, Vec::new(alloc), &[1])?;
+            assert_eq!(rt; status, 2);
+            assert!(rt; printed.is_empty());
+        }
+        Ok(())
+    }
+}
