@@ -1,0 +1,5 @@
+pub mod Search
+pub mod Splits
+pub mod Rows
+pub mod Merges
+pub mod Keys
