@@ -14,7 +14,7 @@ use Rattle.ltx_model.proofs.OneMore.{state-append, legal-parts, run-none}
 use Rattle.ltx_lemmas.proofs.Lists.{all_map, filter_append, filter_nothing, filter_same, given_append, all_from}
 use Rattle.ltx_lemmas.specs.Writes.{rows_after_last_writes}
 use Rattle.ltx_lemmas.proofs.LastWrites.{last_writes_run}
-use Rattle.ltx_laws.specs.Structure.{IsPairwise}
+use Rattle.ltx_lemmas.specs.Pairs.{IsPairwise}
 use Rattle.ltx_laws.specs.Logs.{frames_from, frames_of, events_in, events_of, moves_through}
 use Rattle.ltx_laws.proofs.Transitions.{Cases, entry_case}
 use Rattle.ltx_laws.proofs.FloorCounts.{slots_of, advanced_moves}

@@ -10,7 +10,8 @@ use Rattle.ltx_model.specs.Histories.{begun, answered, slot_after, slots_after, 
 use Rattle.ltx_model.specs.Answers.{IsLegalWith}
 use Rattle.ltx_lemmas.proofs.Lists.{all_map, all_push, all_append, all_contains, filter_nothing}
 use Rattle.ltx_lemmas.proofs.Members.{member_push_other}
-use Rattle.ltx_laws.specs.Structure.{IsPairwise, has_slot, IsKnown, IsSlotOfLive, StandsAs, Stands, Structure}
+use Rattle.ltx_lemmas.specs.Pairs.{IsPairwise}
+use Rattle.ltx_laws.specs.Structure.{has_slot, IsKnown, IsSlotOfLive, StandsAs, Stands, Structure}
 use Rattle.ltx_laws.specs.Orders.{IsPrefix}
 use Rattle.ltx_laws.specs.Drops.{IsLawful, AreLawful, logged_agenda}
 use Rattle.ltx_laws.proofs.Transitions.{Cases, along}

@@ -14,7 +14,8 @@ use Rattle.ltx_model.specs.Histories.{session_of, closed, left, ended, slot_afte
 use Rattle.ltx_model.specs.Answers.{staged, IsLegalFrom, IsLegalWith}
 use Rattle.ltx_model.specs.Explained.{effect_of}
 use Rattle.ltx_model.proofs.OneMore.{state-push}
-use Rattle.ltx_laws.specs.Structure.{IsPairwise, has_slot, forwards, is_forwarded, IsBefore, Structure}
+use Rattle.ltx_lemmas.specs.Pairs.{IsPairwise}
+use Rattle.ltx_laws.specs.Structure.{has_slot, forwards, is_forwarded, IsBefore, Structure}
 use Rattle.ltx_laws.specs.Commits.{IsPrintedForwarded}
 use Rattle.ltx_laws.specs.Orders.{StandsBefore}
 use Rattle.ltx_lemmas.proofs.Lists.{true_false, all_mapped}

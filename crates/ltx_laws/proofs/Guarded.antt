@@ -8,7 +8,8 @@ use Rattle.ltx_model.specs.States.{Declaration, Kind, IsShort, IsPending, IsLive
 use Rattle.ltx_model.specs.Histories.{closed, moved, left, ended}
 use Rattle.ltx_model.specs.Shorts.{held_table}
 use Rattle.ltx_model.specs.Batches.{overtakes, target, is_from, elder_reader}
-use Rattle.ltx_laws.specs.Structure.{IsPairwise, has_slot, is_forwarded, IsKnown, IsBefore, IsSlotOfLive, IsLiveBatch, StandsAs, Stands, Structure}
+use Rattle.ltx_lemmas.specs.Pairs.{IsPairwise}
+use Rattle.ltx_laws.specs.Structure.{has_slot, is_forwarded, IsKnown, IsBefore, IsSlotOfLive, IsLiveBatch, StandsAs, Stands, Structure}
 use Rattle.ltx_laws.specs.Guards.{LooksIntoNone, IsGuarded, GuardsAs, AreGuarded}
 use Rattle.ltx_lemmas.proofs.Lists.{all_map, all_without, all_from, all_contains, find_none, true_false, any_item}
 use Rattle.ltx_laws.proofs.Pairs.{same_number, all_of, all_both, pairs_all, pairs_both, pairs_push, pairs_filter, pairs_map, pairs_insert}

@@ -10,7 +10,8 @@ use Rattle.ltx_model.specs.Agenda.{Member, LiveSlot, Committed, number_of, seria
 use Rattle.ltx_model.specs.States.{Declaration, Kind, IsShort, IsPending, IsLive, Active, Base, State, first_state, is_of, active_of, latest}
 use Rattle.ltx_model.specs.Histories.{with_active, moved, with_step, with_kind, begun, answered, advanced, durable_if, made_durable, state}
 use Rattle.ltx_model.specs.Answers.{IsLegalWith}
-use Rattle.ltx_laws.specs.Structure.{IsPairwise, has_slot, IsPendingBatch, Structure}
+use Rattle.ltx_lemmas.specs.Pairs.{IsPairwise}
+use Rattle.ltx_laws.specs.Structure.{has_slot, IsPendingBatch, Structure}
 use Rattle.ltx_laws.specs.Guards.{IsGuarded, GuardsAs, AreGuarded}
 use Rattle.ltx_lemmas.proofs.Lists.{all_map, all_push, all_change, without_nothing}
 use Rattle.ltx_laws.proofs.Pairs.{all_of, all_both, pairs_push, pairs_from, pairs_weaken}

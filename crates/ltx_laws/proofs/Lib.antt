@@ -44,8 +44,6 @@ pub mod DropsFrames
 pub mod VersionChains
 pub mod VersionRows
 pub mod WitnessHolders
-pub mod WitnessSearch
-pub mod WitnessChanges
 pub mod WitnessStates
 pub mod WitnessBatches
 pub mod WitnessBatchStates

@@ -3,7 +3,7 @@ use Rattle.std.proofs.Common.{◌≡◌, ℕ, Bool, true, false, cond, ◌==◌,
 use Rattle.std.specs.List.{find, AllByRecursion}
 use Rattle.ltx_model.specs.Lists.{change_first, without_first, before_first, from_first}
 use Rattle.ltx_model.specs.Agenda.{Member, has_number, insert_before, part_before, part_from}
-use Rattle.ltx_laws.specs.Structure.{IsPairwise}
+use Rattle.ltx_lemmas.specs.Pairs.{IsPairwise}
 use Rattle.ltx_lemmas.proofs.Lists.{all_map, all_push, all_filter, all_without, all_find, some_same}
 
 -- numbers and tests
@@ -108,11 +108,6 @@ module _ {A : Type 0} where
     replaced : (ys : List A) → AllByRecursion (R x) (ys ++ o ∷ back) → AllByRecursion (R x) (ys ++ o' ∷ back)
     replaced [] all = (before x all.0, all.1)
     replaced (y ∷ ys) all = (all.0, replaced ys all.1)
-
-  -- the items behind one in the middle
-  pub pairs_behind : (R : A → A → Type 0) (front : List A) (o : A) (back : List A) → IsPairwise R (front ++ o ∷ back) → AllByRecursion (R o) back
-  pairs_behind R [] o back pairs = pairs.0
-  pairs_behind R (x ∷ front) o back pairs = pairs_behind R front o back pairs.1
 
   -- the others differ from the first one that passes a test
   pub others_apart : (R : A → A → Type 0) (Q : A → A → Type 0) → ((x y : A) → R x y → Q x y) → ((x y : A) → R y x → Q x y) → (test : A → Bool) (xs : List A) (o : A) → IsPairwise R xs → find test xs ≡ Some o

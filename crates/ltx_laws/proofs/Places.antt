@@ -7,7 +7,7 @@ use Rattle.std.proofs.Common.{◌≡◌, ◌≢◌, ℕ, Bool, true, false, cond
 use Rattle.std.specs.List.{list_any, AllByRecursion}
 use Rattle.ltx_model.specs.Lists.{before_first}
 use Rattle.ltx_model.specs.Agenda.{Member, number_of, has_number, is_member, without_member, part_before}
-use Rattle.ltx_laws.specs.Structure.{IsPairwise}
+use Rattle.ltx_lemmas.specs.Pairs.{IsPairwise}
 use Rattle.ltx_lemmas.proofs.Lists.{true_false, before_fails}
 use Rattle.ltx_laws.proofs.Pairs.{same_number}
 

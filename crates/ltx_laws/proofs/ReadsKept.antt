@@ -23,7 +23,8 @@ use Rattle.ltx_lemmas.proofs.Rising.{rising_run}
 use Rattle.ltx_lemmas.proofs.Views.{play_push}
 use Rattle.ltx_lemmas.proofs.Runs.{run_sourced, sourced_more}
 use Rattle.ltx_lemmas.proofs.Shorts.{AreSeenThen, seen_then_push}
-use Rattle.ltx_laws.specs.Structure.{IsPairwise, IsBefore, IsKnown, IsLiveBatch, StandsAs, Stands, Structure}
+use Rattle.ltx_lemmas.specs.Pairs.{IsPairwise}
+use Rattle.ltx_laws.specs.Structure.{IsBefore, IsKnown, IsLiveBatch, StandsAs, Stands, Structure}
 
 -- An open short: each reply is what it saw on the latest rows of that moment, and these came from the base and the committed transactions.
 pub record IsShortRead (base : List StoredRow) (ts : List Transaction) (n : ℕ) (steps : List Step) : Type 0 where

@@ -29,7 +29,7 @@ use Rattle.ltx_laws.specs.Refusals.{AsksShortCommit, IsPreservedAnswer, IsChange
 use Rattle.ltx_lemmas.proofs.Lists.{find_contains}
 use Rattle.ltx_laws.proofs.Transitions.{see_answers}
 use Rattle.ltx_laws.proofs.WitnessHolders.{AreRising, holder_held, held_least, held_nowhere}
-use Rattle.ltx_laws.proofs.WitnessChanges.{first_change_is}
+use Rattle.ltx_lemmas.proofs.FirstChanges.{first_change_is}
 use Rattle.ltx_laws.proofs.WitnessStates.{rising_in, steps_rising}
 use Rattle.ltx_laws.proofs.PlacesByCommit.{before_legal, entry_is}
 

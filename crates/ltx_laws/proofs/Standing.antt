@@ -5,7 +5,8 @@ use Rattle.ltx_model.specs.Lists.{without_first}
 use Rattle.ltx_model.specs.Operations.{Transaction}
 use Rattle.ltx_model.specs.Agenda.{Member, LiveSlot, Committed, number_of, is_member, serial, agenda_from, part_before, Timed, commit_of, commits_of, moves_until}
 use Rattle.ltx_model.specs.States.{Kind, IsShort, IsPending, IsLive, Step, Active, Base, is_of}
-use Rattle.ltx_laws.specs.Structure.{IsPairwise, has_slot, is_forwarded, commits_after, if_live, is_live_as, AreOpen, IsKnown, IsBefore, StandsAs, Stands}
+use Rattle.ltx_lemmas.specs.Pairs.{IsPairwise}
+use Rattle.ltx_laws.specs.Structure.{has_slot, is_forwarded, commits_after, if_live, is_live_as, AreOpen, IsKnown, IsBefore, StandsAs, Stands}
 use Rattle.ltx_lemmas.proofs.Lists.{all_without, all_find, given_append, some_same}
 use Rattle.ltx_laws.proofs.Pairs.{pairs_without, others_apart}
 use Rattle.ltx_laws.proofs.Agendas.{IsOther}

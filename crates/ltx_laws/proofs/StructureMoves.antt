@@ -13,7 +13,8 @@ use Rattle.ltx_model.specs.Operations.{Transaction}
 use Rattle.ltx_model.specs.Agenda.{Member, Committed, number_of, has_number, is_member, commit_at_slot, agenda_after, serial, agenda_from, part_before, CommitShort, CommitHome, Timed, is_slot, commits_of, commits_batch}
 use Rattle.ltx_model.specs.States.{Active, transaction_of, Base, State, is_of, active_of}
 use Rattle.ltx_model.specs.Histories.{closed, moved}
-use Rattle.ltx_laws.specs.Structure.{IsPairwise, has_slot, forwards, is_forwarded, commits_after, AreSlots, IsKnown, IsBefore, Stands, Structure}
+use Rattle.ltx_lemmas.specs.Pairs.{IsPairwise}
+use Rattle.ltx_laws.specs.Structure.{has_slot, forwards, is_forwarded, commits_after, AreSlots, IsKnown, IsBefore, Stands, Structure}
 use Rattle.ltx_lemmas.proofs.Lists.{all_map, all_push, all_without, all_find, all_mapped, filter_same, true_false}
 use Rattle.ltx_laws.proofs.Pairs.{all_of, all_both, pairs_all, pairs_push, pairs_map}
 use Rattle.ltx_laws.proofs.Agendas.{IsOther, any_push, any_push_not, any_kept, until_more, agenda_more, commits_after_more, commits_after_now, number_home, member_home, member_push, not_member, serial_short, inserted_at_end, inserted_permutes, home_inserted}

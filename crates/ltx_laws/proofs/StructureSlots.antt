@@ -6,9 +6,11 @@ use Rattle.ltx_model.specs.Agenda.{Member, LiveSlot, Committed, number_of, has_n
 use Rattle.ltx_model.specs.States.{Declaration, Kind, IsShort, IsPending, IsLive, Active, Base, State}
 use Rattle.ltx_model.specs.Histories.{with_active, moved, with_kind, made_live, slot_after, slots_after, in_epoch, advanced}
 use Rattle.ltx_model.specs.Answers.{refusal}
-use Rattle.ltx_laws.specs.Structure.{IsPairwise, has_slot, forwards, is_forwarded, commits_after, is_live_as, if_live, IsKnown, IsBefore, IsPendingBatch, StandsAs, Stands, Structure}
+use Rattle.ltx_lemmas.specs.Pairs.{IsPairwise}
+use Rattle.ltx_laws.specs.Structure.{has_slot, forwards, is_forwarded, commits_after, is_live_as, if_live, IsKnown, IsBefore, IsPendingBatch, StandsAs, Stands, Structure}
 use Rattle.ltx_lemmas.proofs.Lists.{all_map, all_push, all_append, filter_same, filter_all, before_past, true_false}
-use Rattle.ltx_laws.proofs.Pairs.{same_number, all_of, all_both, all_replace, all_middle, pairs_push, pairs_weaken, pairs_replace, pairs_behind}
+use Rattle.ltx_lemmas.proofs.Pairwise.{pairs_behind}
+use Rattle.ltx_laws.proofs.Pairs.{same_number, all_of, all_both, all_replace, all_middle, pairs_push, pairs_weaken, pairs_replace}
 use Rattle.ltx_laws.proofs.Agendas.{or_true, any_push, any_push_not, any_kept, until_more, until_new, since_new, agenda_more, commits_after_more, member_push, not_member, serial_slot}
 use Rattle.ltx_laws.proofs.Snapshots.{part_push}
 use Rattle.ltx_laws.proofs.Standing.{IsPendingKind, StaysLater, Keeps, stands_on, before_on, commits_none}

@@ -5,7 +5,8 @@ use Rattle.std.specs.List.{AllByRecursion}
 use Rattle.ltx_model.specs.Operations.{Transaction}
 use Rattle.ltx_model.specs.Agenda.{Member, LiveSlot, Committed, committed_of, is_member, serial, part_before, part_from, Timed}
 use Rattle.ltx_model.specs.States.{Declaration, IsLive, Active, Base, State, is_of, active_of}
-use Rattle.ltx_laws.specs.Structure.{IsPairwise, has_slot, IsKnown, Structure}
+use Rattle.ltx_lemmas.specs.Pairs.{IsPairwise}
+use Rattle.ltx_laws.specs.Structure.{has_slot, IsKnown, Structure}
 use Rattle.ltx_laws.specs.Guards.{LooksIntoNone, WritesNone, IsGuarded, GuardsAs}
 use Rattle.ltx_lemmas.proofs.Lists.{all_map, all_contains, all_find, given_item, some_same, none_some, contains_cases, contains_none}
 use Rattle.ltx_laws.proofs.Pairs.{same_number}

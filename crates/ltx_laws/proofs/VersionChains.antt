@@ -10,7 +10,7 @@ use Rattle.ltx_lemmas.specs.Places.{is_before, AreApart}
 use Rattle.ltx_lemmas.proofs.Lists.{none_some, some_same, all_from, all_map, all_push, all_contains, any_item, any_not, contains_here, contains_later, contains_cases, contains_none, contains_front, contains_back, contains_parts}
 use Rattle.ltx_lemmas.proofs.Members.{before_push_old, before_without, before_insert_others, before_home, before_total, before_trans, before_self, before_member}
 use Rattle.ltx_lemmas.proofs.Serials.{serial_member, serial_is_member, serial_slot, serial_push, serial_parts, serial_home, serial_before, serial_without, slot_not_committed}
-use Rattle.ltx_laws.specs.Structure.{IsPairwise}
+use Rattle.ltx_lemmas.specs.Pairs.{IsPairwise}
 use Rattle.ltx_laws.specs.Orders.{IsPrefix}
 use Rattle.ltx_laws.specs.Drops.{IsLawful, AreLawful}
 use Rattle.ltx_laws.specs.Versions.{has_later, install, install_if, chain_from, chain_of, newest}

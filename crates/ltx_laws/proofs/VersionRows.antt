@@ -19,7 +19,8 @@ use Rattle.ltx_lemmas.proofs.Lists.{all_contains, any_not_all, contains_here, co
 use Rattle.ltx_lemmas.proofs.Members.{apart_one, apart_tail, before_asym}
 use Rattle.ltx_lemmas.proofs.Serials.{serial_member, serial_is_member}
 use Rattle.ltx_lemmas.proofs.Runs.{last_to_write, last_writes, silent_run}
-use Rattle.ltx_laws.specs.Structure.{IsPairwise, StandsAs, Stands}
+use Rattle.ltx_lemmas.specs.Pairs.{IsPairwise}
+use Rattle.ltx_laws.specs.Structure.{StandsAs, Stands}
 use Rattle.ltx_laws.specs.Orders.{IsPrefix}
 use Rattle.ltx_laws.specs.Drops.{AreLawful}
 use Rattle.ltx_laws.specs.Versions.{has_later, install, install_if, chain_from, chain_of, newest, version_row, IsSublist}

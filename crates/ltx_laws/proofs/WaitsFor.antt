@@ -9,7 +9,8 @@ use Rattle.ltx_model.specs.Operations.{Transaction, operations, table_of, cell_o
 use Rattle.ltx_model.specs.Agenda.{Member, LiveSlot, Committed, number_of, has_number, is_member, part_before}
 use Rattle.ltx_model.specs.States.{Kind, IsShort, IsPending, IsLive, Active, transaction_of, Base, State, LiveBatch, as_live, live_batches}
 use Rattle.ltx_model.specs.Batches.{batch_operations, commits_after_slot, committed_ahead, writes_what_looks, preserves_what_looks, overtakes, target, Overtakes, IsOvertakenLive, IsTarget, overtaken_live, is_from, may_still_read, elder_reader, MayRead, HasWitness, Waits, Refusal, late_or, first_witness, first_late, first_contradicted, waits, Witness}
-use Rattle.ltx_laws.specs.Structure.{IsPairwise, IsKnown, IsBefore, Structure}
+use Rattle.ltx_lemmas.specs.Pairs.{IsPairwise}
+use Rattle.ltx_laws.specs.Structure.{IsKnown, IsBefore, Structure}
 use Rattle.ltx_lemmas.proofs.Lists.{any_contains, any_item, all_contains, find_contains, find_passes, find_none, before_contains, some_same, none_some, true_false}
 use Rattle.ltx_lemmas.proofs.Searches.{write_at, is_written_of}
 use Rattle.ltx_lemmas.proofs.Cells.{same_cell_refl}

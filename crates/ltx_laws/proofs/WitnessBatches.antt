@@ -14,8 +14,8 @@ use Rattle.ltx_laws.proofs.Unread.{serial_member}
 use Rattle.ltx_laws.proofs.FirstLate.{first_late_is, none_late}
 use Rattle.ltx_laws.proofs.FirstContradicted.{first_contradicted_is, none_contradicted}
 use Rattle.ltx_laws.proofs.WaitsFor.{apart, overtakes_from, target_is, overtaken_live_is, none_overtaken_live, elder_reader_is, may_read_test, witness_stands, no_witness_stands}
-use Rattle.ltx_laws.proofs.WitnessSearch.{numbered_once}
-use Rattle.ltx_laws.proofs.WitnessChanges.{not_after_once}
+use Rattle.ltx_lemmas.proofs.FirstSearches.{numbered_once}
+use Rattle.ltx_lemmas.proofs.FirstChanges.{not_after_once}
 
 -- of two members neither of which stands before the other
 pub one_place : (ms : List Member) (p q : ℕ) → is_member ms p ≡ true → is_member ms q ≡ true → is_member (part_before p ms) q ≡ false → is_member (part_before q ms) p ≡ false → p ≡ q

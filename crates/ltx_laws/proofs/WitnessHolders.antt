@@ -8,7 +8,7 @@ use Rattle.ltx_model.specs.States.{Kind, IsShort, IsPending, IsLive, Active, tra
 use Rattle.ltx_model.specs.Shorts.{holds, holder, IsHeld, Held, lesser, held_table, IsLeastHeld}
 use Rattle.ltx_lemmas.proofs.Lists.{some_same, none_some, contains_cases, all_contains, find_passes, find_contains, find_not}
 use Rattle.ltx_lemmas.proofs.Members.{same_number}
-use Rattle.ltx_laws.specs.Structure.{IsPairwise}
+use Rattle.ltx_lemmas.specs.Pairs.{IsPairwise}
 
 abbrev pub AreRising : List LiveBatch → Type 0
 AreRising bs = IsPairwise (λ a b. a.tx.number < b.tx.number) bs

@@ -17,7 +17,7 @@ use Rattle.ltx_laws.proofs.LiveStates.{open_in_order}
 use Rattle.ltx_laws.proofs.ReadsKept.{IsReadAs, IsRead}
 use Rattle.ltx_laws.proofs.ExplainedHistories.{reads_of}
 use Rattle.ltx_laws.proofs.WitnessHolders.{AreRising, live_rising, holder_held, held_holder, holder_none, held_least, least_held, held_nowhere}
-use Rattle.ltx_laws.proofs.WitnessChanges.{first_change_is, first_change_found, no_change}
+use Rattle.ltx_lemmas.proofs.FirstChanges.{first_change_is, first_change_found, no_change}
 
 pub rising_in : (built : State → Line → Bool) (base : Base) (history : List Entry) → IsSound base → IsLegalWith built base history → AreRising (live_batches (state base history))
 rising_in built base history sound legal = live_rising (state base history) (open_in_order built base history sound legal).rising

@@ -5,11 +5,7 @@ use Rattle.ltx_model.specs.Operations.{Transaction}
 use Rattle.ltx_model.specs.Agenda.{Member, LiveSlot, Committed, number_of, is_member, Move, Slot, CommitShort, CommitHome, CommitBefore, Leave, Timed, agenda_from, serial, is_slot, commits_of, commits_batch, moves_since, moves_until, part_before}
 use Rattle.ltx_model.specs.States.{Declaration, Kind, IsShort, IsPending, IsLive, Step, Active, Base, State}
 use Rattle.ltx_model.specs.Answers.{refusal}
-
--- each item of a list stands in the relation to each later one
-abbrev pub IsPairwise : {A : Type 0} → (A → A → Type 0) → List A → Type 0
-IsPairwise R [] = Unit {0}
-IsPairwise R (x ∷ xs) = AllByRecursion (R x) xs × IsPairwise R xs
+use Rattle.ltx_lemmas.specs.Pairs.{IsPairwise}
 
 -- a batch of this number became live in these moves
 abbrev pub has_slot : List Timed → ℕ → Bool

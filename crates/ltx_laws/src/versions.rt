@@ -12,7 +12,7 @@ ghost use Rattle.ltx_model.specs.Agenda.{serial, is_member, part_before, commits
 ghost use Rattle.ltx_model.specs.States.{Base, IsSound, State, LiveBatch, live_batches, latest};
 ghost use Rattle.ltx_model.specs.Histories.{state};
 ghost use Rattle.ltx_model.specs.Answers.{IsLegalWith};
-ghost use Rattle.ltx_laws.specs.Structure.{IsPairwise};
+ghost use Rattle.ltx_lemmas.specs.Pairs.{IsPairwise};
 ghost use Rattle.ltx_laws.specs.Orders.{IsPrefix};
 ghost use Rattle.ltx_laws.specs.Versions.{chain_of, newest, version_row, IsSublist};
 

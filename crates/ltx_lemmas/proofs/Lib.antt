@@ -8,3 +8,6 @@ pub mod Runs
 pub mod Searches
 pub mod Shorts
 pub mod LastWrites
+pub mod Pairwise
+pub mod FirstSearches
+pub mod FirstChanges

@@ -13,8 +13,8 @@ use Rattle.ltx_lemmas.proofs.Lists.{some_same, none_some, contains_here, contain
 use Rattle.ltx_lemmas.proofs.Cells.{same_cell_same, cell_cmp_refl}
 use Rattle.ltx_lemmas.proofs.Rising.{rising_put}
 use Rattle.ltx_lemmas.proofs.Searches.{is_in}
-use Rattle.ltx_laws.specs.Structure.{IsPairwise}
-use Rattle.ltx_laws.proofs.Pairs.{pairs_behind}
+use Rattle.ltx_lemmas.specs.Pairs.{IsPairwise}
+use Rattle.ltx_lemmas.proofs.Pairwise.{pairs_behind}
 
 module _ {X : Type 0} where
   from_number : (m k : ℕ) (earlier xs : List X) → m < k → AllByRecursion (λ (o : Numbered X). m < o.number) (numbered_from k earlier xs)

@@ -1,0 +1,74 @@
+-- What a transaction notes of its operations: of each key that was looked up the writer that was found, and what was written.
+use Rattle.std.specs.Prelude.{◌≡◌, ℕ, Bool, true, false, List, [], ◌∷◌, map, Option, Some, None, option_map, if◌then◌else◌}
+use Rattle.std.specs.List.{find, list_any, AllByRecursion}
+use Rattle.std.specs.Ordering.{is_eq}
+use Rattle.ltx_model.specs.declared.commands.Op.{Op}
+use Rattle.ltx_model.specs.declared.commands.Op.TheVariants.{Get, Scan, Put, Del}
+use Rattle.ltx_model.specs.declared.rows.StoredRow.{StoredRow}
+use Rattle.ltx_model.specs.declared.writes.Look.{Look}
+use Rattle.ltx_model.specs.declared.looked.Reach.{Reach}
+use Rattle.ltx_model.specs.declared.looked.Reach.TheVariants.{Nothing, Point, Range}
+use Rattle.ltx_model.specs.declared.looked.Noted.{Noted}
+use Rattle.ltx_model.specs.Lists.{Numbered, numbered}
+use Rattle.ltx_model.specs.Keys.{Cell, key_cmp, in_range, IsRising}
+use Rattle.ltx_model.specs.StoredRows.{writer_at}
+use Rattle.ltx_model.specs.Operations.{table_of, write_of, writes_at, looks_up}
+use Rattle.ltx_model.specs.States.{Step}
+
+-- the writer of a key's row by a look of the key: none where the key was deleted
+abbrev pub found_by : Look → Option ℕ
+found_by look = if look.gone then None else Some look.writer
+
+-- what is noted of a key that was looked up in rows: a look that names the writer of its row, or one of a deletion where it had
+-- no row. A key without a look had no row.
+abbrev pub IsLook : List StoredRow → Cell → Option Look → Type 0
+IsLook rows cell None = writer_at rows cell ≡ None
+IsLook rows cell (Some look) = (look.key ≡ cell.key) × (found_by look ≡ writer_at rows cell)
+
+-- the look of a key
+abbrev pub look_of : List Look → List ℕ → Option Look
+look_of looks key = find (λ look. is_eq (key_cmp look.key key)) looks
+
+-- the key is one of these
+abbrev pub is_one_of : List (List ℕ) → List ℕ → Bool
+is_one_of keys key = list_any (λ k. is_eq (key_cmp k key)) keys
+
+-- What is noted of a range of a table that was looked up in rows, after these earlier operations: looks in the order of their keys,
+-- which tell of each key of the range that they did not write, and the keys of the range that they wrote, in order.
+pub record IsRange (rows : List StoredRow) (earlier : List Op) (table : ℕ) (low high : List ℕ) (looks : List Look) (own : List (List ℕ)) : Type 0 where
+  pub looks_rising : IsRising (λ look. record { table = table; key = look.key }) looks
+  pub looks_within : AllByRecursion (λ look. in_range low high look.key ≡ true) looks
+  pub own_rising : IsRising (λ key. record { table = table; key = key }) own
+  pub own_within : AllByRecursion (λ key. in_range low high key ≡ true) own
+  pub own_keys : (key : List ℕ) → in_range low high key ≡ true → is_one_of own key ≡ list_any (writes_at (record { table = table; key = key })) earlier
+  pub looked : (key : List ℕ) → looks_up (record { table = table; key = key }) earlier (Scan table low high) ≡ true
+      → IsLook rows (record { table = table; key = key }) (look_of looks key)
+
+-- What is noted of a key that was got from rows, after these earlier operations: whether they wrote it, and if not, its look.
+pub record IsPoint (rows : List StoredRow) (earlier : List Op) (cell : Cell) (look : Option Look) (own : Bool) : Type 0 where
+  pub own_key : own ≡ list_any (writes_at cell) earlier
+  pub looked : own ≡ false → IsLook rows cell look
+
+-- what an operation on rows, after these earlier ones, reached of its table
+abbrev pub IsReach : List StoredRow → List Op → Op → Reach → Type 0
+IsReach rows earlier (Get table key) (Point k look own) = (k ≡ key) × IsPoint rows earlier (record { table = table; key = key }) look own
+IsReach rows earlier (Scan table low high) (Range l h looks own) = (l ≡ low) × (h ≡ high) × IsRange rows earlier table low high looks own
+IsReach rows earlier (Put table key value) Nothing = Unit {0}
+IsReach rows earlier (Del table key) Nothing = Unit {0}
+IsReach rows earlier op reach = ⊥
+
+-- the note of an operation on rows, after these earlier ones
+pub record IsNote (rows : List StoredRow) (earlier : List Op) (op : Op) (note : Noted) : Type 0 where
+  pub table : note.table ≡ table_of op
+  pub reach : IsReach rows earlier op note.reach
+  pub write : note.write ≡ option_map (λ w. w.key) (write_of op)
+
+-- each operation has its note, in order; each was answered on the latest rows of its moment
+abbrev pub AreNotesOf : List (Numbered Step) → List Noted → Type 0
+AreNotesOf [] [] = Unit {0}
+AreNotesOf (o ∷ os) (note ∷ notes) = IsNote o.item.latest (map (λ b. b.op) o.earlier) o.item.op note × AreNotesOf os notes
+AreNotesOf os notes = ⊥
+
+-- these are the notes of a short that took these steps
+abbrev pub AreNotes : List Step → List Noted → Type 0
+AreNotes steps notes = AreNotesOf (numbered steps) notes
