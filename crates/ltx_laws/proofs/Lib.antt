@@ -51,3 +51,5 @@ pub mod SlotsKept
 pub mod PlayedFrames
 pub mod LawfulFrames
 pub mod FloorLive
+pub mod CommitEpochs
+pub mod DurableReplies

@@ -72,7 +72,7 @@ module _ (n : ℕ) (s : State) where
   }
 
 -- no open transaction has the number of a committed one
-none_open : (base : Base) (s : State) → Structure base s → (t : Transaction) (m : Timed) → commit_of m.move ≡ Some t → Contains s.moves m → AllByRecursion (λ u. u.number ≢ t.number) s.active
+pub none_open : (base : Base) (s : State) → Structure base s → (t : Transaction) (m : Timed) → commit_of m.move ≡ Some t → Contains s.moves m → AllByRecursion (λ u. u.number ≢ t.number) s.active
 none_open base s inv t m is here =
     let done : Contains (serial s.agenda) t = Contains-permutation (commits_of s.moves) (serial s.agenda) t inv.committed (given_here (λ (x : Timed). commit_of x.move) s.moves m t here is) in
     all_contains (IsKnown s.active s.moves) s.agenda (Committed t) inv.members.known (serial_member s.agenda t done)
@@ -87,7 +87,7 @@ kept_from built base s (entry ∷ entries) t m is inv here legal =
     kept_from built base (after s entry) entries t m is (structure_after built base s entry inv legal.0) (subst (λ l. Contains l m) (sym g.moves) (contains_front s.moves g.rest m here)) legal.1
     ∙ entry_case s (λ line reply s'. TellsKept t.number s s') (kept_cases t.number s) built entry legal.0 (none_open base s inv t m is here)
 
-state_more : (base : Base) (history more : List Entry) (entry : Entry) → state base (history ++ entry ∷ more) ≡ state_from (after (state base history) entry) more
+pub state_more : (base : Base) (history more : List Entry) (entry : Entry) → state base (history ++ entry ∷ more) ≡ state_from (after (state base history) entry) more
 unfolding state_from
 state_more base history more entry = state-append (first_state base) history (entry ∷ more)
 

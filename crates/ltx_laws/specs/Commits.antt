@@ -1,5 +1,5 @@
 -- Commits in a history, and how a reply was printed.
-use Rattle.std.specs.Prelude.{◌≡◌, ℕ, List, ◌∷◌, ◌++◌, Some}
+use Rattle.std.specs.Prelude.{◌≡◌, ◌⊎◌, ℕ, List, ◌∷◌, ◌++◌, Some}
 use Rattle.ltx_model.specs.declared.replies.Entry.{Entry}
 use Rattle.ltx_model.specs.declared.replies.Reply.{Reply}
 use Rattle.ltx_model.specs.declared.replies.Reply.TheVariants as replies
@@ -22,6 +22,10 @@ IsHomeReply reply = (epoch : ℕ) × (reply ≡ replies.Committed epoch)
 -- the reply of a commit before a target
 abbrev pub IsForwardedReply : Reply → ℕ → Type 0
 IsForwardedReply reply target = (epoch : ℕ) × (reply ≡ replies.CommittedBefore epoch target)
+
+-- the reply of a commit in an epoch, at home or before a target
+abbrev pub IsCommitReply : Reply → ℕ → Type 0
+IsCommitReply reply epoch = (reply ≡ replies.Committed epoch) ⊎ ((target : ℕ) × (reply ≡ replies.CommittedBefore epoch target))
 
 -- The history prints the transaction n as forwarded: one of its entries commits it, with a reply that names a target.
 pub record IsPrintedForwarded (base : Base) (history : List Entry) (n : ℕ) : Type 0 where

@@ -1,5 +1,5 @@
 -- The structure of a state: what its numbers, open transactions, moves and agenda keep in every legal history.
-use Rattle.std.specs.Prelude.{◌≡◌, ◌≢◌, ℕ, ◌<◌, ◌≤◌, Bool, true, false, not, ◌==◌, List, [], ◌∷◌, filter, None, IsPermutation}
+use Rattle.std.specs.Prelude.{◌≡◌, ◌≢◌, ℕ, ◌<◌, ◌≤◌, Bool, true, false, not, ◌==◌, List, [], filter, None, IsPermutation}
 use Rattle.std.specs.List.{list_any, AllByRecursion}
 use Rattle.ltx_model.specs.Operations.{Transaction}
 use Rattle.ltx_model.specs.Agenda.{Member, LiveSlot, Committed, number_of, is_member, Move, Slot, CommitShort, CommitHome, CommitBefore, Leave, Timed, agenda_from, serial, is_slot, commits_of, commits_batch, moves_since, moves_until, part_before}

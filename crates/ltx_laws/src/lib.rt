@@ -3,6 +3,7 @@
 
 pub mod batch_witnesses;
 pub mod commits;
+pub mod epochs;
 pub mod floor;
 pub mod preserve;
 pub mod priority;
