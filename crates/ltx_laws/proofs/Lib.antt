@@ -53,3 +53,4 @@ pub mod LawfulFrames
 pub mod FloorLive
 pub mod CommitEpochs
 pub mod DurableReplies
+pub mod LaterFrames

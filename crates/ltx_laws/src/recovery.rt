@@ -9,6 +9,7 @@ ghost use Rattle.ltx_model.specs.Histories.{state};
 ghost use Rattle.ltx_model.specs.Answers.{IsLegalWith};
 ghost use Rattle.ltx_lemmas.specs.Writes.{rows_after_last_writes};
 ghost use Rattle.ltx_laws.specs.Drops.{logged_agenda, AreLawful};
+ghost use Rattle.ltx_laws.specs.Orders.{IsPrefix};
 ghost use Rattle.ltx_laws.specs.Logs.{frames_of, events_in, events_of, moves_through};
 ghost use Rattle.ltx_laws.specs.Played.{AreLawfulEvents, AreInTime, played_list, committed_numbers, rows_after_played};
 
@@ -51,7 +52,8 @@ pub fn frames_are_lawful()
 {}
 
 /// The events of the frames that the flushes of a history write, played one after another on the empty list, give the order
-/// through the durable epoch; and the writes of the list's committed members, over the base's rows, give the rows through it.
+/// through the durable epoch; and the writes of the list's committed members, over the base's rows, give the rows through it. In a
+/// longer history these frames are the first ones, and give the order and the rows through that same epoch.
 pub fn frames_give_the_durable_order()
     ensures order { (built : State → Line → Bool) (base : Base) (history : List Entry) → IsSound base
         → IsLegalWith built base history
@@ -61,6 +63,17 @@ pub fn frames_give_the_durable_order()
         → IsLegalWith built base history
         → rows_after_played base.rows (played_list (events_in (frames_of base history)))
         ≡ rows_through (state base history) (state base history).durable }
+    ensures first { (built : State → Line → Bool) (base : Base) (history more : List Entry) → IsSound base
+        → IsLegalWith built base (history ++ more)
+        → IsPrefix (frames_of base history) (frames_of base (history ++ more)) }
+    ensures later_order { (built : State → Line → Bool) (base : Base) (history more : List Entry) → IsSound base
+        → IsLegalWith built base (history ++ more)
+        → committed_numbers (played_list (events_in (frames_of base history)))
+        ≡ map (λ t. t.number) (serial_through (state base (history ++ more)) (state base history).durable) }
+    ensures later_rows { (built : State → Line → Bool) (base : Base) (history more : List Entry) → IsSound base
+        → IsLegalWith built base (history ++ more)
+        → rows_after_played base.rows (played_list (events_in (frames_of base history)))
+        ≡ rows_through (state base (history ++ more)) (state base history).durable }
 {}
 
 /// The rows through an epoch are what the last write of each key gives, transaction by transaction in the order through it, over
