@@ -41,7 +41,7 @@ module _ (base : Base) (s : State) (inv : Structure base s) where
       let h = open_batch s b live in
       absurd (all_contains (λ (u : Active). u.number ≢ t.number) s.active h.active known h.here (ap (λ (x : Transaction). x.number) h.tx ∙ sym same))
 
-  lives_floor : floor s ≡ None → (b : LiveBatch) → Contains (live_batches s) b → ⊥
+  pub lives_floor : floor s ≡ None → (b : LiveBatch) → Contains (live_batches s) b → ⊥
   lives_floor is b live = by_find (find (counts_for_floor s) s.agenda) refl is where
     slot : (m : Member) × Contains s.agenda m × (has_number b.tx.number m ≡ true)
     slot = any_item (has_number b.tx.number) s.agenda (batch_stands base s inv b (open_batch s b live)).member

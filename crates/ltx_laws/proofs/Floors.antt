@@ -78,7 +78,7 @@ open_live (IsLive d snapshot) o b e =
     let same : live_of o d snapshot ≡ b = some_same e in
     ((λ i. IsLive (same i).declared (same i).snapshot), (λ i. live_of o (sym same i).declared (sym same i).snapshot) ∙ same)
 
-floor_is : (o : Option Member) (f : ℕ) → option_map number_of o ≡ Some f → (m : Member) × (o ≡ Some m) × (number_of m ≡ f)
+pub floor_is : (o : Option Member) (f : ℕ) → option_map number_of o ≡ Some f → (m : Member) × (o ≡ Some m) × (number_of m ≡ f)
 floor_is None f e = absurd (none_some e)
 floor_is (Some m) f e = (m, refl, some_same e)
 

@@ -54,3 +54,4 @@ pub mod FloorLive
 pub mod CommitEpochs
 pub mod DurableReplies
 pub mod LaterFrames
+pub mod FloorWitnesses

@@ -9,3 +9,4 @@ pub mod Logs
 pub mod Versions
 pub mod Refusals
 pub mod Played
+pub mod Floors

@@ -9,6 +9,7 @@ ghost use Rattle.ltx_model.specs.States.{Base, IsSound, State, LiveBatch, live_b
 ghost use Rattle.ltx_model.specs.Histories.{state};
 ghost use Rattle.ltx_model.specs.Answers.{IsLegalWith};
 ghost use Rattle.ltx_model.specs.Batches.{target, is_from, floor, before_floor, safe};
+ghost use Rattle.ltx_laws.specs.Floors.{CountsForFloor, IsFloor};
 ghost use Rattle.ltx_laws.specs.Orders.{IsPrefix};
 
 /// There is a floor exactly while a batch is live.
@@ -19,6 +20,28 @@ pub fn a_floor_while_a_batch_is_live()
     ensures none { (built : State → Line → Bool) (base : Base) (history : List Entry) → IsSound base
         → IsLegalWith built base history
         → floor (state base history) ≡ None → (b : LiveBatch) → Contains (live_batches (state base history)) b → ⊥ }
+{}
+
+/// The floor is a live batch, or a batch whose commit came after the slot of a batch that is live now, and nothing that is one of these
+/// stands before it; there is none exactly where nothing is one of these. The members before the floor are those before this one, or all
+/// of them where there is none.
+pub fn floor_is_the_earliest()
+    ensures given { (built : State → Line → Bool) (base : Base) (history : List Entry) → IsSound base
+        → IsLegalWith built base history
+        → (f : ℕ) → floor (state base history) ≡ Some f → IsFloor (state base history) f }
+    ensures found { (built : State → Line → Bool) (base : Base) (history : List Entry) → IsSound base
+        → IsLegalWith built base history
+        → (f : ℕ) → IsFloor (state base history) f → floor (state base history) ≡ Some f }
+    ensures none { (built : State → Line → Bool) (base : Base) (history : List Entry) → IsSound base
+        → IsLegalWith built base history
+        → floor (state base history) ≡ None → (n : ℕ) → CountsForFloor (state base history) n → ⊥ }
+    ensures before { (built : State → Line → Bool) (base : Base) (history : List Entry) → IsSound base
+        → IsLegalWith built base history
+        → (f : ℕ) → floor (state base history) ≡ Some f
+        → before_floor (state base history) ≡ part_before f (state base history).agenda }
+    ensures all { (built : State → Line → Bool) (base : Base) (history : List Entry) → IsSound base
+        → IsLegalWith built base history
+        → floor (state base history) ≡ None → before_floor (state base history) ≡ (state base history).agenda }
 {}
 
 /// While there is a floor, each target of a live batch's commit is the floor or stands after it.
