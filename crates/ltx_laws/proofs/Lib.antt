@@ -55,3 +55,4 @@ pub mod CommitEpochs
 pub mod DurableReplies
 pub mod LaterFrames
 pub mod FloorWitnesses
+pub mod LastWriters

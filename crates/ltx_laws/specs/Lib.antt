@@ -10,3 +10,4 @@ pub mod Versions
 pub mod Refusals
 pub mod Played
 pub mod Floors
+pub mod LastWriters
