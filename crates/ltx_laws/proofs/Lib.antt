@@ -56,3 +56,4 @@ pub mod DurableReplies
 pub mod LaterFrames
 pub mod FloorWitnesses
 pub mod LastWriters
+pub mod LiveOrder

@@ -1,9 +1,9 @@
 //! States: what a state keeps in every legal history, read off its open transactions, moves and agenda.
 
-ghost use Rattle.std.specs.Prelude.{◌≡◌, ℕ, Bool, List, [], Contains};
+ghost use Rattle.std.specs.Prelude.{◌≡◌, ℕ, ◌<◌, Bool, true, List, [], Contains};
 ghost use Rattle.ltx_model.specs.declared.commands.Line.{Line};
 ghost use Rattle.ltx_model.specs.declared.replies.Entry.{Entry};
-ghost use Rattle.ltx_model.specs.Agenda.{agenda_from, commits_of, moves_until, serial};
+ghost use Rattle.ltx_model.specs.Agenda.{is_member, part_before, agenda_from, commits_of, moves_until, serial};
 ghost use Rattle.ltx_model.specs.States.{Base, IsSound, State, LiveBatch, live_batches};
 ghost use Rattle.ltx_model.specs.Histories.{state};
 ghost use Rattle.ltx_model.specs.Answers.{IsLegalWith};
@@ -17,6 +17,14 @@ ghost use Rattle.ltx_model.specs.Explained.{opens_from};
 pub fn open_transactions_stand_in_order()
     ensures order { (built : State → Line → Bool) (base : Base) (history : List Entry) → IsSound base
         → IsLegalWith built base history → AreOpen base (state base history).last (state base history).active }
+{}
+
+/// Live batches stand in the agenda in the order of their numbers.
+pub fn live_batches_stand_in_order()
+    ensures order { (built : State → Line → Bool) (base : Base) (history : List Entry) → IsSound base
+        → IsLegalWith built base history
+        → (a b : LiveBatch) → Contains (live_batches (state base history)) a → Contains (live_batches (state base history)) b
+        → a.tx.number < b.tx.number → is_member (part_before b.tx.number (state base history).agenda) a.tx.number ≡ true }
 {}
 
 /// The agenda is what the moves give, one after another, on an empty list.
