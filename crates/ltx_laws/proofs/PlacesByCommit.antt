@@ -57,12 +57,12 @@ stands_inserted t u front back apart here = record { member = member front; befo
       by_test false e = e
 
 -- a member that is put before another stands just before it
-just_before : (x : Member) (p : ℕ) (ms : List Member) → is_member ms p ≡ true → StandsJustBefore (insert_before x p ms) (number_of x) p
+just_before : (x : Member) (p : ℕ) (ms : List Member) → is_member ms p ≡ true → StandsJustBefore (insert_before x p ms) x p
 just_before x p [] e = cc
 just_before x p (m ∷ ms) e = by_test (has_number p m) refl e (just_before x p ms) where
-  by_test : (b : Bool) → has_number p m ≡ b → (b || is_member ms p) ≡ true → (is_member ms p ≡ true → StandsJustBefore (insert_before x p ms) (number_of x) p) → StandsJustBefore (cond b (x ∷ m ∷ ms) (m ∷ insert_before x p ms)) (number_of x) p
-  by_test true is e later = record { front = []; first = x; second = m; back = ms; parts = refl; number = refl; target = same_number (number_of m) p is }
-  by_test false is e later = let h = later e in record { front = m ∷ h.front; first = h.first; second = h.second; back = h.back; parts = ap (λ l. m ∷ l) h.parts; number = h.number; target = h.target }
+  by_test : (b : Bool) → has_number p m ≡ b → (b || is_member ms p) ≡ true → (is_member ms p ≡ true → StandsJustBefore (insert_before x p ms) x p) → StandsJustBefore (cond b (x ∷ m ∷ ms) (m ∷ insert_before x p ms)) x p
+  by_test true is e later = record { front = []; second = m; back = ms; parts = refl; target = same_number (number_of m) p is }
+  by_test false is e later = let h = later e in record { front = m ∷ h.front; second = h.second; back = h.back; parts = ap (λ l. m ∷ l) h.parts; target = h.target }
 
 -- an entry of a legal history
 module _ (built : State → Line → Bool) (base : Base) (history more : List Entry) (entry : Entry) (sound : IsSound base) (legal : IsLegalWith built base (history ++ entry ∷ more)) where
@@ -124,14 +124,14 @@ module _ (built : State → Line → Bool) (base : Base) (history more : List En
       by_case (inr (inr h)) = absurd (let none : ⊥ = cc (sym home.1 ∙ h.reply_is) in none)
 
     -- a forwarded batch
-    pub before_placed : (p : ℕ) → IsForwardedReply entry.reply p → StandsJustBefore (after s entry).agenda o.number p
+    pub before_placed : (p : ℕ) → IsForwardedReply entry.reply p → StandsJustBefore (after s entry).agenda (Committed (transaction_of o)) p
     before_placed p printed = by_case one where
-      by_case : IsOneCommit s c.session o entry.reply (after s entry) → StandsJustBefore (after s entry).agenda o.number p
+      by_case : IsOneCommit s c.session o entry.reply (after s entry) → StandsJustBefore (after s entry).agenda (Committed (transaction_of o)) p
       by_case (inl h) = absurd (let none : ⊥ = cc (sym printed.1 ∙ h.reply_is) in none)
       by_case (inr (inl h)) = absurd (let none : ⊥ = cc (sym printed.1 ∙ h.reply_is) in none)
       by_case (inr (inr h)) =
           let same : p ≡ h.place = cc (sym printed.1 ∙ h.reply_is) in
           let ahead : is_member (part_before o.number s.agenda) h.place ≡ true = live_target_ahead base s before_structure c.session o c.opened h.declared h.snapshot h.kind h.place h.goal in
           let there : is_member (without_member s.agenda o.number) h.place ≡ true = member_without h.place o.number (before_apart o.number h.place s.agenda ahead) s.agenda ∙ any_before (has_number h.place) (has_number o.number) s.agenda ahead in
-          subst (λ x. StandsJustBefore x.agenda o.number p) (sym h.after_is)
-          (subst (λ n. StandsJustBefore (insert_before (Committed (transaction_of o)) h.place (without_member s.agenda o.number)) o.number n) (sym same) (just_before (Committed (transaction_of o)) h.place (without_member s.agenda o.number) there))
+          subst (λ x. StandsJustBefore x.agenda (Committed (transaction_of o)) p) (sym h.after_is)
+          (subst (λ n. StandsJustBefore (insert_before (Committed (transaction_of o)) h.place (without_member s.agenda o.number)) (Committed (transaction_of o)) n) (sym same) (just_before (Committed (transaction_of o)) h.place (without_member s.agenda o.number) there))

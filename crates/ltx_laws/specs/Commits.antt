@@ -39,12 +39,10 @@ pub record IsPrintedForwarded (base : Base) (history : List Entry) (n : ℕ) : T
   pub target : ℕ
   pub printed : IsForwardedReply entry.reply target
 
--- A member with the number n stands immediately before one with the number p.
-pub record StandsJustBefore (ms : List Member) (n p : ℕ) : Type 0 where
+-- The member x stands immediately before one with the number p.
+pub record StandsJustBefore (ms : List Member) (x : Member) (p : ℕ) : Type 0 where
   pub front : List Member
-  pub first : Member
   pub second : Member
   pub back : List Member
-  pub parts : ms ≡ front ++ first ∷ second ∷ back
-  pub number : number_of first ≡ n
+  pub parts : ms ≡ front ++ x ∷ second ∷ back
   pub target : number_of second ≡ p

@@ -4,8 +4,8 @@ ghost use Rattle.std.specs.Prelude.{◌≡◌, ℕ, ◌<◌, Bool, true, false, 
 ghost use Rattle.ltx_model.specs.declared.commands.Line.{Line};
 ghost use Rattle.ltx_model.specs.declared.replies.Entry.{Entry};
 ghost use Rattle.ltx_model.specs.Operations.{Transaction};
-ghost use Rattle.ltx_model.specs.Agenda.{serial};
-ghost use Rattle.ltx_model.specs.States.{Declaration, IsShort, IsPending, IsLive, Active, Base, IsSound, State, order};
+ghost use Rattle.ltx_model.specs.Agenda.{Committed, serial};
+ghost use Rattle.ltx_model.specs.States.{Declaration, IsShort, IsPending, IsLive, Active, transaction_of, Base, IsSound, State, order};
 ghost use Rattle.ltx_model.specs.Histories.{state};
 ghost use Rattle.ltx_model.specs.Answers.{IsLegalWith};
 ghost use Rattle.ltx_laws.specs.Commits.{IsCommitOf, IsHomeReply, IsForwardedReply, IsPrintedForwarded, StandsJustBefore};
@@ -30,12 +30,12 @@ pub fn home_stands_after_its_snapshot()
         → StandsBefore (order (state base (history ++ entry ∷ more))) t.number o.number }
 {}
 
-/// A forwarded batch was placed immediately before its printed target. (A later batch may be placed between them.)
+/// A forwarded batch was placed, as committed, immediately before its printed target. (A later batch may be placed between them.)
 pub fn forwarded_stands_just_before_its_target()
     ensures placed { (built : State → Line → Bool) (base : Base) (history : List Entry) (entry : Entry) → IsSound base
         → IsLegalWith built base (history ++ entry ∷ [])
         → (o : Active) (target : ℕ) → IsCommitOf (state base history) entry o → IsForwardedReply entry.reply target
-        → StandsJustBefore (state base (history ++ entry ∷ [])).agenda o.number target }
+        → StandsJustBefore (state base (history ++ entry ∷ [])).agenda (Committed (transaction_of o)) target }
 {}
 
 /// Of two committed batches that stand against their numbers, the one with the greater number was printed as forwarded. A
