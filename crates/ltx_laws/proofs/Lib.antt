@@ -57,3 +57,4 @@ pub mod LaterFrames
 pub mod FloorWitnesses
 pub mod LastWriters
 pub mod LiveOrder
+pub mod FrameEpochs

@@ -5,6 +5,7 @@ use Rattle.ltx_model.specs.declared.rows.StoredRow.{StoredRow}
 use Rattle.ltx_model.specs.declared.writes.Write.{Write}
 use Rattle.ltx_model.specs.Lists.{before_first}
 use Rattle.ltx_model.specs.Frames.{LogEvent, SlotEvent, ShortEvent, BatchEvent, Frame}
+use Rattle.ltx_lemmas.specs.Pairs.{IsPairwise}
 use Rattle.ltx_lemmas.specs.Writes.{rows_after_writes}
 
 -- a member of the list: the slot of a batch, or what is committed, a number and its writes
@@ -93,3 +94,13 @@ IsWithin lower upper (BatchEvent n epoch target writes) = (lower < epoch) × (ep
 abbrev pub AreInTime : ℕ → List Frame → Type 0
 AreInTime before [] = Unit {0}
 AreInTime before (f ∷ fs) = (before < f.epoch) × AllByRecursion (IsWithin before f.epoch) f.events × AreInTime f.epoch fs
+
+-- the epoch of a commit
+abbrev pub epoch_of : LogEvent → Option ℕ
+epoch_of (SlotEvent n) = None
+epoch_of (ShortEvent n epoch writes) = Some epoch
+epoch_of (BatchEvent n epoch target writes) = Some epoch
+
+-- the epochs of a frame's commits never fall
+abbrev pub NeverFalls : Frame → Type 0
+NeverFalls f = IsPairwise (λ a b. a ≤ b) (filter_map epoch_of f.events)

@@ -1,6 +1,7 @@
 //! What a log gives back: the moves without the drops, and the frames of the flushes.
 
 ghost use Rattle.std.specs.Prelude.{◌≡◌, ℕ, ◌<◌, Bool, List, [], ◌++◌, map};
+ghost use Rattle.std.specs.List.{AllByRecursion};
 ghost use Rattle.ltx_model.specs.declared.commands.Line.{Line};
 ghost use Rattle.ltx_model.specs.declared.replies.Entry.{Entry};
 ghost use Rattle.ltx_model.specs.Agenda.{serial};
@@ -11,7 +12,7 @@ ghost use Rattle.ltx_lemmas.specs.Writes.{rows_after_last_writes};
 ghost use Rattle.ltx_laws.specs.Drops.{logged_agenda, AreLawful};
 ghost use Rattle.ltx_laws.specs.Orders.{IsPrefix};
 ghost use Rattle.ltx_laws.specs.Logs.{frames_of, events_in, events_of, moves_through};
-ghost use Rattle.ltx_laws.specs.Played.{AreLawfulEvents, AreInTime, played_list, committed_numbers, rows_after_played};
+ghost use Rattle.ltx_laws.specs.Played.{AreLawfulEvents, AreInTime, NeverFalls, played_list, committed_numbers, rows_after_played};
 
 /// The moves of slots and commits, without those of batches that left, give the serial order when they are played on an empty
 /// list; and so do those of the epochs up to any one give the order through it.
@@ -43,12 +44,14 @@ pub fn moves_are_lawful()
 
 /// The frames that the flushes of a history write are lawful. Each event, played after those before it, is: a slot or a short has
 /// a new number, a batch its slot in the list, and its target before that slot. The epochs of the frames rise from above the base's
-/// durable one, and each commit's epoch is above that of the frame before and at most its frame's.
+/// durable one, each commit's epoch is above that of the frame before and at most its frame's, and in a frame they never fall.
 pub fn frames_are_lawful()
     ensures events { (built : State → Line → Bool) (base : Base) (history : List Entry) → IsSound base
         → IsLegalWith built base history → AreLawfulEvents [] (events_in (frames_of base history)) }
     ensures epochs { (built : State → Line → Bool) (base : Base) (history : List Entry) → IsSound base
         → IsLegalWith built base history → AreInTime base.durable (frames_of base history) }
+    ensures rising { (built : State → Line → Bool) (base : Base) (history : List Entry) → IsSound base
+        → IsLegalWith built base history → AllByRecursion NeverFalls (frames_of base history) }
 {}
 
 /// The events of the frames that the flushes of a history write, played one after another on the empty list, give the order
