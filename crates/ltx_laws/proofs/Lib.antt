@@ -58,3 +58,5 @@ pub mod FloorWitnesses
 pub mod LastWriters
 pub mod LiveOrder
 pub mod FrameEpochs
+pub mod AnsweredBatches
+pub mod AnsweredShorts

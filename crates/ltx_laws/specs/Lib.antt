@@ -11,3 +11,4 @@ pub mod Refusals
 pub mod Played
 pub mod Floors
 pub mod LastWriters
+pub mod Answered

@@ -1,6 +1,7 @@
 //! The laws of the serial order: what holds in every legal history. Each is the contract of a function with an empty body.
 #![tactic(auto)]
 
+pub mod answers;
 pub mod batch_witnesses;
 pub mod commits;
 pub mod epochs;
