@@ -60,3 +60,4 @@ pub mod LiveOrder
 pub mod FrameEpochs
 pub mod AnsweredBatches
 pub mod AnsweredShorts
+pub mod FollowingFrames

@@ -1,9 +1,10 @@
 //! What a log gives back: the moves without the drops, and the frames of the flushes.
 
-ghost use Rattle.std.specs.Prelude.{◌≡◌, ℕ, ◌<◌, Bool, List, [], ◌++◌, map};
+ghost use Rattle.std.specs.Prelude.{◌≡◌, ℕ, ◌<◌, ◌≤◌, Bool, List, [], ◌++◌, map};
 ghost use Rattle.std.specs.List.{AllByRecursion};
 ghost use Rattle.ltx_model.specs.declared.commands.Line.{Line};
 ghost use Rattle.ltx_model.specs.declared.replies.Entry.{Entry};
+ghost use Rattle.ltx_model.specs.declared.rows.StoredRow.{StoredRow};
 ghost use Rattle.ltx_model.specs.Agenda.{serial};
 ghost use Rattle.ltx_model.specs.States.{Base, IsSound, State, serial_through, rows_through};
 ghost use Rattle.ltx_model.specs.Histories.{state};
@@ -12,7 +13,7 @@ ghost use Rattle.ltx_lemmas.specs.Writes.{rows_after_last_writes};
 ghost use Rattle.ltx_laws.specs.Drops.{logged_agenda, AreLawful};
 ghost use Rattle.ltx_laws.specs.Orders.{IsPrefix};
 ghost use Rattle.ltx_laws.specs.Logs.{frames_of, events_in, events_of, moves_through};
-ghost use Rattle.ltx_laws.specs.Played.{AreLawfulEvents, AreInTime, NeverFalls, played_list, committed_numbers, rows_after_played};
+ghost use Rattle.ltx_laws.specs.Played.{Played, number_played, AreLawfulEvents, AreInTime, NeverFalls, after_events, played_list, committed_numbers, rows_after_played};
 
 /// The moves of slots and commits, without those of batches that left, give the serial order when they are played on an empty
 /// list; and so do those of the epochs up to any one give the order through it.
@@ -77,6 +78,26 @@ pub fn frames_give_the_durable_order()
         → IsLegalWith built base (history ++ more)
         → rows_after_played base.rows (played_list (events_in (frames_of base history)))
         ≡ rows_through (state base (history ++ more)) (state base history).durable }
+{}
+
+/// A log may begin with frames of earlier runs. On a list whose numbers are at most the base's last one, the events of the frames that
+/// the flushes of a history write are lawful as well, and give that list and behind it the one that they give on the empty list. So
+/// where the writes of the earlier list give the base's rows, those of the whole give the rows through the durable epoch.
+pub fn frames_follow_earlier_ones()
+    ensures list { (built : State → Line → Bool) (base : Base) (history : List Entry) → IsSound base
+        → IsLegalWith built base history
+        → (earlier : List Played) → AllByRecursion (λ p. number_played p ≤ base.last) earlier
+        → after_events earlier (events_in (frames_of base history)) ≡ earlier ++ played_list (events_in (frames_of base history)) }
+    ensures lawful { (built : State → Line → Bool) (base : Base) (history : List Entry) → IsSound base
+        → IsLegalWith built base history
+        → (earlier : List Played) → AllByRecursion (λ p. number_played p ≤ base.last) earlier
+        → AreLawfulEvents earlier (events_in (frames_of base history)) }
+    ensures rows { (built : State → Line → Bool) (base : Base) (history : List Entry) → IsSound base
+        → IsLegalWith built base history
+        → (earlier : List Played) → AllByRecursion (λ p. number_played p ≤ base.last) earlier
+        → (rows : List StoredRow) → rows_after_played rows earlier ≡ base.rows
+        → rows_after_played rows (after_events earlier (events_in (frames_of base history)))
+        ≡ rows_through (state base history) (state base history).durable }
 {}
 
 /// The rows through an epoch are what the last write of each key gives, transaction by transaction in the order through it, over
