@@ -61,3 +61,4 @@ pub mod FrameEpochs
 pub mod AnsweredBatches
 pub mod AnsweredShorts
 pub mod FollowingFrames
+pub mod SlotEpochs

@@ -1,10 +1,10 @@
 //! States: what a state keeps in every legal history, read off its open transactions, moves and agenda.
 
-ghost use Rattle.std.specs.Prelude.{◌≡◌, ℕ, ◌<◌, Bool, true, List, [], Contains};
+ghost use Rattle.std.specs.Prelude.{◌≡◌, ℕ, ◌+◌, ◌<◌, Bool, true, List, [], Contains};
 ghost use Rattle.ltx_model.specs.declared.commands.Line.{Line};
 ghost use Rattle.ltx_model.specs.declared.replies.Entry.{Entry};
-ghost use Rattle.ltx_model.specs.Agenda.{is_member, part_before, agenda_from, commits_of, moves_until, serial};
-ghost use Rattle.ltx_model.specs.States.{Base, IsSound, State, LiveBatch, live_batches};
+ghost use Rattle.ltx_model.specs.Agenda.{Slot, is_member, part_before, agenda_from, commits_of, moves_until, serial};
+ghost use Rattle.ltx_model.specs.States.{Declaration, IsPending, Active, Base, IsSound, State, LiveBatch, live_batches};
 ghost use Rattle.ltx_model.specs.Histories.{state};
 ghost use Rattle.ltx_model.specs.Answers.{IsLegalWith};
 ghost use Rattle.ltx_model.specs.Explained.{committed_in};
@@ -25,6 +25,19 @@ pub fn live_batches_stand_in_order()
         → IsLegalWith built base history
         → (a b : LiveBatch) → Contains (live_batches (state base history)) a → Contains (live_batches (state base history)) b
         → a.tx.number < b.tx.number → is_member (part_before b.tx.number (state base history).agenda) a.tx.number ≡ true }
+{}
+
+/// A batch becomes live in the epoch that its begin printed: while it is pending that is the next one, and the slot of a live batch is a
+/// move of that epoch.
+pub fn batches_become_live_in_their_epoch()
+    ensures pending { (built : State → Line → Bool) (base : Base) (history : List Entry) → IsSound base
+        → IsLegalWith built base history
+        → (o : Active) (d : Declaration) → Contains (state base history).active o → o.kind ≡ IsPending d
+        → d.from ≡ (state base history).epoch + 1 }
+    ensures live { (built : State → Line → Bool) (base : Base) (history : List Entry) → IsSound base
+        → IsLegalWith built base history
+        → (b : LiveBatch) → Contains (live_batches (state base history)) b
+        → Contains (state base history).moves (record { epoch = b.declared.from; move = Slot b.tx.number }) }
 {}
 
 /// The agenda is what the moves give, one after another, on an empty list.
