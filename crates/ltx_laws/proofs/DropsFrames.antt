@@ -47,7 +47,7 @@ module _ (s : State) where
   grows_ended session o (IsPending d) = grows_same (closed s session) refl refl refl
   grows_ended session o (IsLive d snapshot) = grows_moved (left (closed s session) (IsLive d snapshot) o.number) (Leave o.number) refl refl refl
 
-  slots_keep : (epoch : ℕ) (r : State) (os : List Active) → ((slots_after epoch r os).epoch ≡ r.epoch) × ((slots_after epoch r os).durable ≡ r.durable)
+  pub slots_keep : (epoch : ℕ) (r : State) (os : List Active) → ((slots_after epoch r os).epoch ≡ r.epoch) × ((slots_after epoch r os).durable ≡ r.durable)
   slots_keep epoch r [] = (refl, refl)
   slots_keep epoch r (o ∷ os) = let rest = slots_keep epoch (slot_after epoch r o.kind o.number) os in let own = by_kind o.kind in (rest.0 ∙ own.0, rest.1 ∙ own.1) where
     by_kind : (k : Kind) → ((slot_after epoch r k o.number).epoch ≡ r.epoch) × ((slot_after epoch r k o.number).durable ≡ r.durable)

@@ -62,3 +62,4 @@ pub mod AnsweredBatches
 pub mod AnsweredShorts
 pub mod FollowingFrames
 pub mod SlotEpochs
+pub mod InsideAreas

@@ -1,5 +1,5 @@
 -- A batch becomes live in the epoch that its begin printed.
-use Rattle.std.proofs.Common.{◌≡◌, ℕ, ◌+◌, Bool, true, false, nat_lt, List, [], ◌∷◌, ◌++◌, map, refl, sym, ap, ◌∙◌, subst, Contains}
+use Rattle.std.proofs.Common.{◌≡◌, ℕ, ◌+◌, Bool, true, false, nat_lt, List, [], ◌∷◌, ◌++◌, map, refl, sym, ap, subst, Contains}
 use Rattle.std.specs.List.{AllByRecursion}
 use Rattle.ltx_model.specs.declared.commands.Line.{Line}
 use Rattle.ltx_model.specs.declared.replies.Entry.{Entry}
@@ -9,12 +9,13 @@ use Rattle.ltx_model.specs.Lists.{without_first}
 use Rattle.ltx_model.specs.Operations.{Transaction}
 use Rattle.ltx_model.specs.Agenda.{serial, Move, Slot, CommitShort, CommitHome, CommitBefore, Leave, Timed}
 use Rattle.ltx_model.specs.States.{Declaration, Kind, IsShort, IsPending, IsLive, Active, transaction_of, Base, IsSound, State, first_state, is_of, latest, LiveBatch, live_batches}
-use Rattle.ltx_model.specs.Histories.{with_step, answered, closed, moved, left, made_live, with_kind, slot_after, slots_after, in_epoch, advanced, durable_if, state}
+use Rattle.ltx_model.specs.Histories.{with_step, answered, closed, moved, left, made_live, with_kind, in_epoch, advanced, durable_if, state}
 use Rattle.ltx_model.specs.Answers.{IsLegalWith}
 use Rattle.ltx_lemmas.proofs.Lists.{all_map, all_push, all_without, all_change, all_contains, all_from, all_mapped, contains_front, contains_back, given_here}
 use Rattle.ltx_laws.proofs.Transitions.{Cases, along}
 use Rattle.ltx_laws.proofs.StructureSlots.{slots_active}
 use Rattle.ltx_laws.proofs.FloorCounts.{slot_if, slots_of, advanced_moves}
+use Rattle.ltx_laws.proofs.DropsFrames.{slots_keep}
 use Rattle.ltx_laws.proofs.LiveStates.{open_batch}
 
 abbrev IsOfEpoch : ℕ → List Timed → Kind → ℕ → Type 0
@@ -63,14 +64,6 @@ module _ (s : State) (h : AreOfEpoch s) where
       subst (λ n. Contains (s.moves ++ slots_of (s.epoch + 1) s.active) (record { epoch = n; move = Slot o.number })) (sym e) (contains_back s.moves (slots_of (s.epoch + 1) s.active) new made)
   slot_made o (IsLive d snapshot) here kind e = contains_front s.moves (slots_of (s.epoch + 1) s.active) (record { epoch = d.from; move = Slot o.number }) e
 
-  epoch_kept : (epoch : ℕ) (r : State) (os : List Active) → (slots_after epoch r os).epoch ≡ r.epoch
-  epoch_kept epoch r [] = refl
-  epoch_kept epoch r (o ∷ os) = epoch_kept epoch (slot_after epoch r o.kind o.number) os ∙ by_kind o.kind where
-    by_kind : (k : Kind) → (slot_after epoch r k o.number).epoch ≡ r.epoch
-    by_kind IsShort = refl
-    by_kind (IsPending d) = refl
-    by_kind (IsLive d snapshot) = refl
-
   after_advance : AreOfEpoch (advanced s (s.epoch + 1))
   after_advance =
       let next = s.epoch + 1 in
@@ -78,7 +71,7 @@ module _ (s : State) (h : AreOfEpoch s) where
       = all_from (λ o. IsOfEpoch next (s.moves ++ slots_of next s.active) (made_live (serial s.agenda) o.kind) o.number) s.active (λ o here. slot_made o o.kind here refl (all_contains Here s.active o h here)) in
       let there : AllByRecursion (λ o. IsOfEpoch next (s.moves ++ slots_of next s.active) o.kind o.number) (map (λ o. with_kind (made_live (serial s.agenda) o.kind) o) s.active)
       = all_mapped (λ (o : Active). IsOfEpoch next (s.moves ++ slots_of next s.active) o.kind o.number) (λ o. with_kind (made_live (serial s.agenda) o.kind) o) s.active made in
-      subst (λ e. AllByRecursion (λ o. IsOfEpoch e (advanced s next).moves o.kind o.number) (advanced s next).active) (sym (epoch_kept next (in_epoch s next) s.active))
+      subst (λ e. AllByRecursion (λ o. IsOfEpoch e (advanced s next).moves o.kind o.number) (advanced s next).active) (sym (slots_keep s next (in_epoch s next) s.active).0)
       (subst (λ l. AllByRecursion (λ o. IsOfEpoch next l o.kind o.number) (advanced s next).active) (sym (advanced_moves next (in_epoch s next) s.active))
       (subst (AllByRecursion (λ o. IsOfEpoch next (s.moves ++ slots_of next s.active) o.kind o.number)) (sym (slots_active next (in_epoch s next) s.active)) there))
 

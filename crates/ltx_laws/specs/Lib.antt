@@ -12,3 +12,4 @@ pub mod Played
 pub mod Floors
 pub mod LastWriters
 pub mod Answered
+pub mod Areas

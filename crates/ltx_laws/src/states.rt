@@ -1,6 +1,7 @@
 //! States: what a state keeps in every legal history, read off its open transactions, moves and agenda.
 
 ghost use Rattle.std.specs.Prelude.{◌≡◌, ℕ, ◌+◌, ◌<◌, Bool, true, List, [], Contains};
+ghost use Rattle.std.specs.List.{AllByRecursion};
 ghost use Rattle.ltx_model.specs.declared.commands.Line.{Line};
 ghost use Rattle.ltx_model.specs.declared.replies.Entry.{Entry};
 ghost use Rattle.ltx_model.specs.Agenda.{Slot, is_member, part_before, agenda_from, commits_of, moves_until, serial};
@@ -8,6 +9,7 @@ ghost use Rattle.ltx_model.specs.States.{Declaration, IsPending, Active, Base, I
 ghost use Rattle.ltx_model.specs.Histories.{state};
 ghost use Rattle.ltx_model.specs.Answers.{IsLegalWith};
 ghost use Rattle.ltx_model.specs.Explained.{committed_in};
+ghost use Rattle.ltx_laws.specs.Areas.{IsInside};
 ghost use Rattle.ltx_laws.specs.Structure.{AreOpen, Structure};
 ghost use Rattle.ltx_laws.specs.Told.{opens_of};
 ghost use Rattle.ltx_model.specs.Explained.{opens_from};
@@ -38,6 +40,14 @@ pub fn batches_become_live_in_their_epoch()
         → IsLegalWith built base history
         → (b : LiveBatch) → Contains (live_batches (state base history)) b
         → Contains (state base history).moves (record { epoch = b.declared.from; move = Slot b.tx.number }) }
+{}
+
+/// The reads of a live batch are in its read area, and its writes in tables that it declared for writing.
+pub fn batches_stay_inside_what_they_declared()
+    ensures inside { (built : State → Line → Bool) (base : Base) (history : List Entry) → IsSound base
+        → IsLegalWith built base history
+        → (b : LiveBatch) → Contains (live_batches (state base history)) b
+        → AllByRecursion (λ a. IsInside b.declared a.op) b.tx.answered }
 {}
 
 /// The agenda is what the moves give, one after another, on an empty list.
