@@ -1,5 +1,6 @@
 -- Scripts whose answers are known, computed by the checker from the definitions.
-use Rattle.std.proofs.Common.{◌≡◌, ℕ, List, [], ◌∷◌, refl, map, Some, None, take, reverse}
+use Rattle.std.proofs.Common.{◌≡◌, ℕ, List, [], ◌∷◌, refl, ap, map, Some, None, take, reverse, arith, true, false, length, nat_le}
+use Rattle.ltx_model.specs.declared.commands.Op.{Op}
 use Rattle.ltx_model.specs.declared.commands.Op.TheVariants.{Get, Scan, Put, Del}
 use Rattle.ltx_model.specs.declared.commands.Verb.{Verb}
 use Rattle.ltx_model.specs.declared.commands.Verb.TheVariants as verbs
@@ -8,13 +9,15 @@ use Rattle.ltx_model.specs.declared.commands.Line.{Line}
 use Rattle.ltx_model.specs.declared.commands.Line.TheVariants as lines
 use Rattle.ltx_model.specs.declared.replies.Reply.{Reply}
 use Rattle.ltx_model.specs.declared.replies.Reply.TheVariants as replies
-use Rattle.ltx_model.specs.States.{Base, first_state, order}
+use Rattle.ltx_model.specs.declared.rows.StoredRow.{StoredRow}
+use Rattle.ltx_model.specs.States.{Base, IsSound, State, first_state, order, latest, rows_through}
+use Rattle.ltx_model.specs.Operations.{Transaction, table_of}
 use Rattle.ltx_model.specs.Rows.{run, see, RunGives}
 use Rattle.ltx_model.specs.Shorts.{first_change}
-use Rattle.ltx_model.specs.Batches.{target, first_late, first_contradicted}
-use Rattle.ltx_model.specs.Frames.{SlotEvent, BatchEvent, sealed, body_length}
+use Rattle.ltx_model.specs.Batches.{target, first_late, first_contradicted, floor, safe}
+use Rattle.ltx_model.specs.Frames.{SlotEvent, ShortEvent, BatchEvent, sealed, body_length}
 use Rattle.ltx_model.specs.Histories.{after, state_from, state}
-use Rattle.ltx_model.specs.Answers.{everything, answer, entries_from}
+use Rattle.ltx_model.specs.Answers.{everything, answer, entries_from, is_full, counted, operation_of_short, operation_of_batch}
 use Rattle.ltx_model.specs.Explained.{committed_in, committed_from}
 
 -- an empty log, one whose last epoch has come, and one whose last number was given
@@ -1278,6 +1281,380 @@ hastx_first_order : order_after before_last_number hastx_first ≡ []
 unfolding entries_from answer after state_from run see first_change target first_late first_contradicted sealed body_length
 hastx_first_order = refl
 
+-- the record of a look-up is kept when it is durable, and through a prune
+abbrev durable_record_is_kept : List Line
+durable_record_is_kept =
+    asks 1 (verbs.Long 1 18446744073709551615) ∷
+    asks 2 (verbs.Long 2 18446744073709551615) ∷
+    lines.Good Epoch ∷
+    asks 1 (verbs.Do (Get 1 (120 ∷ []))) ∷
+    asks 2 (verbs.Do (Get 0 (121 ∷ []))) ∷
+    asks 1 (verbs.Do (Put 0 (121 ∷ []) (97 ∷ []))) ∷
+    asks 2 (verbs.Do (Put 1 (120 ∷ []) (98 ∷ []))) ∷
+    asks 2 verbs.Commit ∷
+    asks 1 verbs.Commit ∷
+    lines.Good Epoch ∷
+    lines.Good Flush ∷
+    lines.Good Prune ∷
+    asks 2 verbs.Commit ∷ []
+
+durable_record_is_kept_replies : replies_to blank durable_record_is_kept ≡
+    replies.BegunAt 1 2 ∷
+    replies.BegunAt 2 2 ∷
+    replies.Advanced 2 ∷
+    replies.Absent ∷
+    replies.Absent ∷
+    replies.Done ∷
+    replies.Done ∷
+    replies.Waiting 1 ∷
+    replies.Committed 2 ∷
+    replies.Advanced 3 ∷
+    replies.Durable 2 ∷
+    replies.Pruned ∷
+    replies.Contradicts 1 2 1 (120 ∷ []) 1 ∷ []
+unfolding entries_from answer after state_from run see first_change target first_late first_contradicted sealed body_length
+durable_record_is_kept_replies = refl
+
+durable_record_is_kept_order : order_after blank durable_record_is_kept ≡ 1 ∷ []
+unfolding entries_from answer after state_from run see first_change target first_late first_contradicted sealed body_length
+durable_record_is_kept_order = refl
+
+-- a younger batch that committed at its slot stands behind an elder, which does not overtake it
+abbrev younger_at_home_is_not_overtaken : List Line
+younger_at_home_is_not_overtaken =
+    asks 1 (verbs.Long 1 18446744073709551615) ∷
+    asks 2 (verbs.Long 2 18446744073709551615) ∷
+    lines.Good Epoch ∷
+    asks 1 (verbs.Do (Get 1 (120 ∷ []))) ∷
+    asks 2 (verbs.Do (Put 1 (120 ∷ []) (98 ∷ []))) ∷
+    asks 2 verbs.Commit ∷
+    asks 1 verbs.Commit ∷ []
+
+younger_at_home_is_not_overtaken_replies : replies_to blank younger_at_home_is_not_overtaken ≡
+    replies.BegunAt 1 2 ∷
+    replies.BegunAt 2 2 ∷
+    replies.Advanced 2 ∷
+    replies.Absent ∷
+    replies.Done ∷
+    replies.Committed 2 ∷
+    replies.Committed 2 ∷ []
+unfolding entries_from answer after state_from run see first_change target first_late first_contradicted sealed body_length
+younger_at_home_is_not_overtaken_replies = refl
+
+younger_at_home_is_not_overtaken_order : order_after blank younger_at_home_is_not_overtaken ≡ 1 ∷ 2 ∷ []
+unfolding entries_from answer after state_from run see first_change target first_late first_contradicted sealed body_length
+younger_at_home_is_not_overtaken_order = refl
+
+-- the same value by another writer is a change
+abbrev same_value_again_is_a_change : List Line
+same_value_again_is_a_change =
+    asks 1 verbs.Short ∷
+    asks 1 (verbs.Do (Put 0 (120 ∷ []) (97 ∷ []))) ∷
+    asks 1 verbs.Commit ∷
+    asks 1 verbs.Short ∷
+    asks 1 (verbs.Do (Get 0 (120 ∷ []))) ∷
+    asks 2 verbs.Short ∷
+    asks 2 (verbs.Do (Put 0 (120 ∷ []) (97 ∷ []))) ∷
+    asks 2 verbs.Commit ∷
+    asks 1 verbs.Commit ∷ []
+
+same_value_again_is_a_change_replies : replies_to blank same_value_again_is_a_change ≡
+    replies.Begun 1 ∷
+    replies.Done ∷
+    replies.Committed 1 ∷
+    replies.Begun 2 ∷
+    replies.Found (97 ∷ []) ∷
+    replies.Begun 3 ∷
+    replies.Done ∷
+    replies.Committed 1 ∷
+    replies.Changed 1 0 (120 ∷ []) (Some 1) (Some 3) ∷ []
+unfolding entries_from answer after state_from run see first_change target first_late first_contradicted sealed body_length
+same_value_again_is_a_change_replies = refl
+
+same_value_again_is_a_change_order : order_after blank same_value_again_is_a_change ≡ 1 ∷ 3 ∷ []
+unfolding entries_from answer after state_from run see first_change target first_late first_contradicted sealed body_length
+same_value_again_is_a_change_order = refl
+
+-- the high end of a scan is not in its range
+abbrev high_end_is_not_in_the_range : List Line
+high_end_is_not_in_the_range =
+    asks 1 verbs.Short ∷
+    asks 1 (verbs.Do (Put 0 (97 ∷ []) (49 ∷ []))) ∷
+    asks 1 (verbs.Do (Put 0 (98 ∷ []) (50 ∷ []))) ∷
+    asks 1 verbs.Commit ∷
+    asks 1 verbs.Short ∷
+    asks 1 (verbs.Do (Scan 0 (97 ∷ []) (98 ∷ []))) ∷
+    asks 2 verbs.Short ∷
+    asks 2 (verbs.Do (Put 0 (98 ∷ []) (51 ∷ []))) ∷
+    asks 2 verbs.Commit ∷
+    asks 1 verbs.Commit ∷ []
+
+high_end_is_not_in_the_range_replies : replies_to blank high_end_is_not_in_the_range ≡
+    replies.Begun 1 ∷
+    replies.Done ∷
+    replies.Done ∷
+    replies.Committed 1 ∷
+    replies.Begun 2 ∷
+    replies.Rows (record { key = (97 ∷ []); value = (49 ∷ []) } ∷ []) ∷
+    replies.Begun 3 ∷
+    replies.Done ∷
+    replies.Committed 1 ∷
+    replies.Committed 1 ∷ []
+unfolding entries_from answer after state_from run see first_change target first_late first_contradicted sealed body_length
+high_end_is_not_in_the_range_replies = refl
+
+high_end_is_not_in_the_range_order : order_after blank high_end_is_not_in_the_range ≡ 1 ∷ 3 ∷ 2 ∷ []
+unfolding entries_from answer after state_from run see first_change target first_late first_contradicted sealed body_length
+high_end_is_not_in_the_range_order = refl
+
+-- the first change is of the least operation, and in it of the least key; a row that went away is one
+abbrev first_change_of_several : List Line
+first_change_of_several =
+    asks 1 verbs.Short ∷
+    asks 1 (verbs.Do (Put 0 (97 ∷ []) (49 ∷ []))) ∷
+    asks 1 (verbs.Do (Put 0 (98 ∷ []) (50 ∷ []))) ∷
+    asks 1 (verbs.Do (Put 0 (99 ∷ []) (51 ∷ []))) ∷
+    asks 1 verbs.Commit ∷
+    asks 1 verbs.Short ∷
+    asks 1 (verbs.Do (Scan 0 [] [])) ∷
+    asks 1 (verbs.Do (Get 0 (99 ∷ []))) ∷
+    asks 2 verbs.Short ∷
+    asks 2 (verbs.Do (Del 0 (97 ∷ []))) ∷
+    asks 2 (verbs.Do (Put 0 (98 ∷ []) (53 ∷ []))) ∷
+    asks 2 (verbs.Do (Put 0 (99 ∷ []) (54 ∷ []))) ∷
+    asks 2 verbs.Commit ∷
+    asks 1 verbs.Commit ∷ []
+
+first_change_of_several_replies : replies_to blank first_change_of_several ≡
+    replies.Begun 1 ∷
+    replies.Done ∷
+    replies.Done ∷
+    replies.Done ∷
+    replies.Committed 1 ∷
+    replies.Begun 2 ∷
+    replies.Rows (record { key = (97 ∷ []); value = (49 ∷ []) } ∷ record { key = (98 ∷ []); value = (50 ∷ []) } ∷ record { key = (99 ∷ []); value = (51 ∷ []) } ∷ []) ∷
+    replies.Found (51 ∷ []) ∷
+    replies.Begun 3 ∷
+    replies.Done ∷
+    replies.Done ∷
+    replies.Done ∷
+    replies.Committed 1 ∷
+    replies.Changed 1 0 (97 ∷ []) (Some 1) None ∷ []
+unfolding entries_from answer after state_from run see first_change target first_late first_contradicted sealed body_length
+first_change_of_several_replies = refl
+
+first_change_of_several_order : order_after blank first_change_of_several ≡ 1 ∷ 3 ∷ []
+unfolding entries_from answer after state_from run see first_change target first_late first_contradicted sealed body_length
+first_change_of_several_order = refl
+
+-- the first write that is contradicted; a reader that wrote the key afterwards is a reader of it
+abbrev first_contradicted_write : List Line
+first_contradicted_write =
+    asks 1 (verbs.Long 1 18446744073709551615) ∷
+    lines.Good Epoch ∷
+    asks 2 verbs.Short ∷
+    asks 2 (verbs.Do (Get 1 (120 ∷ []))) ∷
+    asks 2 (verbs.Do (Get 1 (121 ∷ []))) ∷
+    asks 2 (verbs.Do (Put 1 (120 ∷ []) (115 ∷ []))) ∷
+    asks 2 verbs.Commit ∷
+    asks 2 (verbs.Long 2 18446744073709551615) ∷
+    lines.Good Epoch ∷
+    asks 2 (verbs.Do (Get 0 (121 ∷ []))) ∷
+    asks 2 (verbs.Do (Put 1 (120 ∷ []) (98 ∷ []))) ∷
+    asks 2 (verbs.Do (Put 1 (121 ∷ []) (98 ∷ []))) ∷
+    asks 1 (verbs.Do (Put 0 (121 ∷ []) (97 ∷ []))) ∷
+    asks 1 verbs.Commit ∷
+    asks 2 verbs.Commit ∷ []
+
+first_contradicted_write_replies : replies_to blank first_contradicted_write ≡
+    replies.BegunAt 1 2 ∷
+    replies.Advanced 2 ∷
+    replies.Begun 2 ∷
+    replies.Absent ∷
+    replies.Absent ∷
+    replies.Done ∷
+    replies.Committed 2 ∷
+    replies.BegunAt 3 3 ∷
+    replies.Advanced 3 ∷
+    replies.Absent ∷
+    replies.Done ∷
+    replies.Done ∷
+    replies.Done ∷
+    replies.Committed 3 ∷
+    replies.Contradicts 1 2 1 (120 ∷ []) 2 ∷ []
+unfolding entries_from answer after state_from run see first_change target first_late first_contradicted sealed body_length
+first_contradicted_write_replies = refl
+
+first_contradicted_write_order : order_after blank first_contradicted_write ≡ 1 ∷ 2 ∷ []
+unfolding entries_from answer after state_from run see first_change target first_late first_contradicted sealed body_length
+first_contradicted_write_order = refl
+
+-- a pending batch holds no table
+abbrev pending_batch_holds_nothing : List Line
+pending_batch_holds_nothing =
+    asks 1 (verbs.Long 1 18446744073709551615) ∷
+    asks 2 verbs.Short ∷
+    asks 2 (verbs.Do (Put 0 (120 ∷ []) (97 ∷ []))) ∷
+    asks 2 verbs.Commit ∷
+    lines.Good Epoch ∷
+    asks 1 verbs.Commit ∷ []
+
+pending_batch_holds_nothing_replies : replies_to blank pending_batch_holds_nothing ≡
+    replies.BegunAt 1 2 ∷
+    replies.Begun 2 ∷
+    replies.Done ∷
+    replies.Committed 1 ∷
+    replies.Advanced 2 ∷
+    replies.Committed 2 ∷ []
+unfolding entries_from answer after state_from run see first_change target first_late first_contradicted sealed body_length
+pending_batch_holds_nothing_replies = refl
+
+pending_batch_holds_nothing_order : order_after blank pending_batch_holds_nothing ≡ 2 ∷ 1 ∷ []
+unfolding entries_from answer after state_from run see first_change target first_late first_contradicted sealed body_length
+pending_batch_holds_nothing_order = refl
+
+-- an elder is not waited for whose area holds only what was declared and not written
+abbrev declared_and_not_written : List Line
+declared_and_not_written =
+    asks 1 (verbs.Long 1 2) ∷
+    asks 2 (verbs.Long 6 18446744073709551615) ∷
+    lines.Good Epoch ∷
+    asks 2 (verbs.Do (Get 0 (121 ∷ []))) ∷
+    asks 2 (verbs.Do (Put 2 (122 ∷ []) (99 ∷ []))) ∷
+    asks 2 verbs.Commit ∷ []
+
+declared_and_not_written_replies : replies_to blank declared_and_not_written ≡
+    replies.BegunAt 1 2 ∷
+    replies.BegunAt 2 2 ∷
+    replies.Advanced 2 ∷
+    replies.Absent ∷
+    replies.Done ∷
+    replies.CommittedBefore 2 1 ∷ []
+unfolding entries_from answer after state_from run see first_change target first_late first_contradicted sealed body_length
+declared_and_not_written_replies = refl
+
+declared_and_not_written_order : order_after blank declared_and_not_written ≡ 2 ∷ []
+unfolding entries_from answer after state_from run see first_change target first_late first_contradicted sealed body_length
+declared_and_not_written_order = refl
+
+-- a scan without rows looks into its table
+abbrev scan_looks_into_its_table : List Line
+scan_looks_into_its_table =
+    asks 1 (verbs.Long 1 18446744073709551615) ∷
+    asks 2 (verbs.Long 2 1) ∷
+    lines.Good Epoch ∷
+    asks 2 (verbs.Do (Scan 0 [] [])) ∷
+    asks 2 verbs.Commit ∷
+    asks 1 (verbs.Do (Put 0 (121 ∷ []) (97 ∷ []))) ∷
+    asks 1 verbs.Commit ∷ []
+
+scan_looks_into_its_table_replies : replies_to blank scan_looks_into_its_table ≡
+    replies.BegunAt 1 2 ∷
+    replies.BegunAt 2 2 ∷
+    replies.Advanced 2 ∷
+    replies.Rows ([]) ∷
+    replies.CommittedBefore 2 1 ∷
+    replies.Done ∷
+    replies.Committed 2 ∷ []
+unfolding entries_from answer after state_from run see first_change target first_late first_contradicted sealed body_length
+scan_looks_into_its_table_replies = refl
+
+scan_looks_into_its_table_order : order_after blank scan_looks_into_its_table ≡ 2 ∷ 1 ∷ []
+unfolding entries_from answer after state_from run see first_change target first_late first_contradicted sealed body_length
+scan_looks_into_its_table_order = refl
+
+-- the late key of an operation is its least one, also where it was deleted without a row
+abbrev late_deletion_of_the_least_key : List Line
+late_deletion_of_the_least_key =
+    asks 1 (verbs.Long 1 18446744073709551615) ∷
+    lines.Good Epoch ∷
+    asks 2 verbs.Short ∷
+    asks 2 (verbs.Do (Put 5 (98 ∷ []) (49 ∷ []))) ∷
+    asks 2 (verbs.Do (Put 5 (99 ∷ []) (50 ∷ []))) ∷
+    asks 2 verbs.Commit ∷
+    asks 2 verbs.Short ∷
+    asks 2 (verbs.Do (Del 5 (97 ∷ []))) ∷
+    asks 2 verbs.Commit ∷
+    asks 2 (verbs.Long 2 18446744073709551615) ∷
+    lines.Good Epoch ∷
+    asks 2 (verbs.Do (Scan 5 [] [])) ∷
+    asks 2 (verbs.Do (Get 0 (121 ∷ []))) ∷
+    asks 1 (verbs.Do (Put 0 (121 ∷ []) (97 ∷ []))) ∷
+    asks 1 verbs.Commit ∷
+    asks 2 verbs.Commit ∷ []
+
+late_deletion_of_the_least_key_replies : replies_to blank late_deletion_of_the_least_key ≡
+    replies.BegunAt 1 2 ∷
+    replies.Advanced 2 ∷
+    replies.Begun 2 ∷
+    replies.Done ∷
+    replies.Done ∷
+    replies.Committed 2 ∷
+    replies.Begun 3 ∷
+    replies.Done ∷
+    replies.Committed 2 ∷
+    replies.BegunAt 4 3 ∷
+    replies.Advanced 3 ∷
+    replies.Rows (record { key = (98 ∷ []); value = (49 ∷ []) } ∷ record { key = (99 ∷ []); value = (50 ∷ []) } ∷ []) ∷
+    replies.Absent ∷
+    replies.Done ∷
+    replies.Committed 3 ∷
+    replies.Late 1 1 5 (97 ∷ []) 3 ∷ []
+unfolding entries_from answer after state_from run see first_change target first_late first_contradicted sealed body_length
+late_deletion_of_the_least_key_replies = refl
+
+late_deletion_of_the_least_key_order : order_after blank late_deletion_of_the_least_key ≡ 1 ∷ 2 ∷ 3 ∷ []
+unfolding entries_from answer after state_from run see first_change target first_late first_contradicted sealed body_length
+late_deletion_of_the_least_key_order = refl
+
+-- of a batch that was aborted a frame has the slot alone
+abbrev dropped_batch_has_no_event : List Line
+dropped_batch_has_no_event =
+    asks 1 (verbs.Long 1 18446744073709551615) ∷
+    lines.Good Epoch ∷
+    asks 1 verbs.Abort ∷
+    lines.Good Epoch ∷
+    lines.Good Flush ∷ []
+
+dropped_batch_has_no_event_replies : replies_to blank dropped_batch_has_no_event ≡
+    replies.BegunAt 1 2 ∷
+    replies.Advanced 2 ∷
+    replies.Aborted ∷
+    replies.Advanced 3 ∷
+    replies.Durable 2 ∷ []
+unfolding entries_from answer after state_from run see first_change target first_late first_contradicted sealed body_length
+dropped_batch_has_no_event_replies = refl
+
+dropped_batch_has_no_event_order : order_after blank dropped_batch_has_no_event ≡ []
+unfolding entries_from answer after state_from run see first_change target first_late first_contradicted sealed body_length
+dropped_batch_has_no_event_order = refl
+
+-- a frame has the last write of each key, in order
+abbrev last_writes_are_sealed : List Line
+last_writes_are_sealed =
+    asks 1 verbs.Short ∷
+    asks 1 (verbs.Do (Put 0 (121 ∷ []) (97 ∷ []))) ∷
+    asks 1 (verbs.Do (Put 0 (120 ∷ []) (97 ∷ []))) ∷
+    asks 1 (verbs.Do (Put 0 (120 ∷ []) (98 ∷ []))) ∷
+    asks 1 (verbs.Do (Del 0 (121 ∷ []))) ∷
+    asks 1 verbs.Commit ∷
+    lines.Good Epoch ∷ []
+
+last_writes_are_sealed_replies : replies_to blank last_writes_are_sealed ≡
+    replies.Begun 1 ∷
+    replies.Done ∷
+    replies.Done ∷
+    replies.Done ∷
+    replies.Done ∷
+    replies.Committed 1 ∷
+    replies.Advanced 2 ∷ []
+unfolding entries_from answer after state_from run see first_change target first_late first_contradicted sealed body_length
+last_writes_are_sealed_replies = refl
+
+last_writes_are_sealed_order : order_after blank last_writes_are_sealed ≡ 1 ∷ []
+unfolding entries_from answer after state_from run see first_change target first_late first_contradicted sealed body_length
+last_writes_are_sealed_order = refl
+
 -- the log's closed gate after frames of known lengths
 younger_is_forwarded_gate : gate_after blank younger_is_forwarded ≡ 114
 unfolding entries_from answer after state_from run see first_change target first_late first_contradicted sealed body_length
@@ -1286,6 +1663,10 @@ younger_is_forwarded_gate = refl
 closed_epochs_become_durable_gate : gate_after blank closed_epochs_become_durable ≡ 107
 unfolding entries_from answer after state_from run see first_change target first_late first_contradicted sealed body_length
 closed_epochs_become_durable_gate = refl
+
+dropped_batch_has_no_event_gate : gate_after blank dropped_batch_has_no_event ≡ 47
+unfolding entries_from answer after state_from run see first_change target first_late first_contradicted sealed body_length
+dropped_batch_has_no_event_gate = refl
 
 -- a flush fits the log to the byte, and is one byte too long
 abbrev flush_once : List Line
@@ -1306,6 +1687,93 @@ forwarded_frame : sealed (state blank (take 10 (entries_from everything (first_s
 }
 unfolding entries_from answer after state_from run see first_change target first_late first_contradicted sealed body_length
 forwarded_frame = refl
+
+-- the frame of a short that wrote two keys twice: the last write of each, in order
+sealed_last_writes : sealed (state blank (entries_from everything (first_state blank) last_writes_are_sealed)) ≡ record {
+  epoch = 1;
+  events = ShortEvent 1 1 (record { table = 0; key = 120 ∷ []; put = Some (98 ∷ []) } ∷ record { table = 0; key = 121 ∷ []; put = None } ∷ []) ∷ [];
+}
+unfolding entries_from answer after state_from run see first_change target first_late first_contradicted sealed body_length
+sealed_last_writes = refl
+
+-- the floor and the safe members: a forwarded batch stands before the live elder that it overtook, an elder that aborted is gone,
+-- a batch that committed before the slot of the live one does not count, and without a live batch all are safe
+abbrev state_after : ℕ → List Line → State
+state_after n ls = state blank (take n (entries_from everything (first_state blank) ls))
+
+abbrev safe_numbers : State → List ℕ
+safe_numbers s = map (λ t. t.number) (safe s)
+
+floor_is_a_forwarded_batch : floor (state_after 13 forwarded_write_stays_under) ≡ Some 3
+unfolding entries_from answer after state_from run see first_change target first_late first_contradicted sealed body_length
+floor_is_a_forwarded_batch = refl
+
+safe_before_a_forwarded_batch : safe_numbers (state_after 13 forwarded_write_stays_under) ≡ []
+unfolding entries_from answer after state_from run see first_change target first_late first_contradicted sealed body_length
+safe_before_a_forwarded_batch = refl
+
+floor_after_the_elder_aborted : floor (state_after 12 elder_aborts) ≡ Some 3
+unfolding entries_from answer after state_from run see first_change target first_late first_contradicted sealed body_length
+floor_after_the_elder_aborted = refl
+
+safe_after_the_elder_aborted : safe_numbers (state_after 12 elder_aborts) ≡ 2 ∷ []
+unfolding entries_from answer after state_from run see first_change target first_late first_contradicted sealed body_length
+safe_after_the_elder_aborted = refl
+
+floor_is_the_live_batch : floor (state_after 6 committed_before_the_slot) ≡ Some 2
+unfolding entries_from answer after state_from run see first_change target first_late first_contradicted sealed body_length
+floor_is_the_live_batch = refl
+
+safe_before_the_live_batch : safe_numbers (state_after 6 committed_before_the_slot) ≡ 1 ∷ []
+unfolding entries_from answer after state_from run see first_change target first_late first_contradicted sealed body_length
+safe_before_the_live_batch = refl
+
+no_floor_without_live_batches : floor (state_after 8 committed_before_the_slot) ≡ None
+unfolding entries_from answer after state_from run see first_change target first_late first_contradicted sealed body_length
+no_floor_without_live_batches = refl
+
+safe_without_live_batches : safe_numbers (state_after 8 committed_before_the_slot) ≡ 1 ∷ 2 ∷ []
+unfolding entries_from answer after state_from run see first_change target first_late first_contradicted sealed body_length
+safe_without_live_batches = refl
+
+-- the rows through each epoch
+abbrev row_x : List ℕ → ℕ → StoredRow
+row_x value writer = record { table = 0; key = 120 ∷ []; value = value; writer = writer }
+
+rows_through_the_base : rows_through (state_after 10 closed_epochs_become_durable) 0 ≡ []
+unfolding entries_from answer after state_from run see first_change target first_late first_contradicted sealed body_length
+rows_through_the_base = refl
+
+rows_through_the_first_epoch : rows_through (state_after 10 closed_epochs_become_durable) 1 ≡ row_x (97 ∷ []) 1 ∷ []
+unfolding entries_from answer after state_from run see first_change target first_late first_contradicted sealed body_length
+rows_through_the_first_epoch = refl
+
+rows_through_the_second_epoch : rows_through (state_after 10 closed_epochs_become_durable) 2 ≡ row_x (98 ∷ []) 2 ∷ []
+unfolding entries_from answer after state_from run see first_change target first_late first_contradicted sealed body_length
+rows_through_the_second_epoch = refl
+
+-- a transaction is full at 65,536 operations and not before; a held table, or a table that it may not use, is named first
+full_at_the_limit : (t : Transaction) → length t.answered ≡ 65536 → is_full t ≡ true
+full_at_the_limit t e = ap (λ n. nat_le 65536 n) e
+
+not_full_before_the_limit : (t : Transaction) → length t.answered ≡ 65535 → is_full t ≡ false
+not_full_before_the_limit t e = ap (λ n. nat_le 65536 n) e
+
+full_is_limited : (s : State) (t : Transaction) (op : Op) → is_full t ≡ true → operation_of_short s None t op ≡ replies.LimitOps
+full_is_limited s t op e = ap (λ full. counted full (latest s) t op) e
+
+full_batch_is_limited : (s : State) (t : Transaction) (op : Op) (snapshot : List Transaction) → is_full t ≡ true → operation_of_batch s None snapshot t op ≡ replies.LimitOps
+full_batch_is_limited s t op snapshot e = ap (λ full. counted full (run s.base snapshot) t op) e
+
+held_before_full : (s : State) (n : ℕ) (t : Transaction) (op : Op) → operation_of_short s (Some n) t op ≡ replies.Preserved (table_of op) n
+held_before_full s n t op = refl
+
+outside_before_full : (s : State) (reply : Reply) (t : Transaction) (op : Op) (snapshot : List Transaction) → operation_of_batch s (Some reply) snapshot t op ≡ reply
+outside_before_full s reply t op snapshot = refl
+
+-- bases at both limits are sound
+both_limits_are_sound : IsSound at_both_limits
+both_limits_are_sound = record { rising = tt; writers = tt; durable = omega arith; last = omega arith }
 
 -- run in the order of their numbers, the two batches do not get the replies that they were given
 numbers_do_not_explain : RunGives [] (reverse (committed_in (entries_from everything (first_state blank) younger_is_forwarded))) → ⊥

@@ -16,6 +16,7 @@ pub record Open : Type 0 where
   pub session : ℕ
   pub tx : Transaction
 
+-- it is the open transaction of this session
 abbrev pub is_session : ℕ → Open → Bool
 is_session session o = o.session == session
 
@@ -28,6 +29,7 @@ pub data Effect : Type 0 where
   Ends : Effect
   Leaves : Effect
 
+-- the effect of each reply
 abbrev pub effect_of : Reply → Effect
 effect_of (replies.Begun n) = Begins n
 effect_of (replies.BegunAt n epoch) = Begins n
@@ -44,13 +46,16 @@ effect_of (replies.Late target op table key writer) = Ends
 effect_of (replies.Contradicts target op table key reader) = Ends
 effect_of reply = Leaves
 
+-- an answered operation more
 abbrev pub with_answer : Answered → Open → Open
 with_answer a o = record { session = o.session; tx = record { number = o.tx.number; answered = o.tx.answered ++ a ∷ [] } }
 
+-- an answered operation is added to the transaction of its session
 abbrev pub answers_if : Option Op → Reply → ℕ → List Open → List Open
 answers_if None reply session opens = opens
 answers_if (Some op) reply session opens = change_first (is_session session) (with_answer (record { op = op; reply = reply })) opens
 
+-- the open transactions after an effect in a session
 abbrev pub opens_by : Effect → Option Op → Reply → ℕ → List Open → List Open
 opens_by (Begins n) op reply session opens = without_first (is_session session) opens ++ record { session = session; tx = record { number = n; answered = [] } } ∷ []
 opens_by Answers op reply session opens = answers_if op reply session opens
@@ -58,6 +63,7 @@ opens_by Commits op reply session opens = without_first (is_session session) ope
 opens_by Ends op reply session opens = without_first (is_session session) opens
 opens_by Leaves op reply session opens = opens
 
+-- the open transactions after an entry in a session, if its line has one
 abbrev pub opens_in : Option ℕ → Entry → List Open → List Open
 opens_in None entry opens = opens
 opens_in (Some session) entry opens = opens_by (effect_of entry.reply) (operation_of entry.line) entry.reply session opens
@@ -66,6 +72,7 @@ opens_in (Some session) entry opens = opens_by (effect_of entry.reply) (operatio
 abbrev pub opens_after : List Open → Entry → List Open
 opens_after opens entry = opens_in (session_of entry.line) entry opens
 
+-- what an effect in a session commits
 abbrev pub commit_by : Effect → ℕ → List Open → Option Transaction
 commit_by (Begins n) session opens = None
 commit_by Answers session opens = None
@@ -73,6 +80,7 @@ commit_by Commits session opens = option_map (λ o. o.tx) (find (is_session sess
 commit_by Ends session opens = None
 commit_by Leaves session opens = None
 
+-- what a reply in a session commits, if its line has one
 abbrev pub commit_in_session : Option ℕ → Reply → List Open → Option Transaction
 commit_in_session None reply opens = None
 commit_in_session (Some session) reply opens = commit_by (effect_of reply) session opens
