@@ -61,7 +61,7 @@ mod tests {
             (b"", b"%"),
             (b"a b", b"a%20b"),
             (b"100%", b"100%25"),
-            (b"\xff~!\n", b"%FF~!%0A"),
+            (b"\xff\x7f~!\n", b"%FF%7F~!%0A"),
         ];
         for (bytes, word) in cases {
             let mut out = Vec::new(alloc);
@@ -70,7 +70,7 @@ mod tests {
             let read = decode_word(alloc, word)?.expect(&rt, "a word");
             assert_eq!(rt; read.as_slice(), bytes);
         }
-        let others: [&[u8]; 6] = [b"", b"%41", b"%2f", b"a b", b"a%", b"%G0"];
+        let others: [&[u8]; 7] = [b"", b"%41", b"%2f", b"a b", b"a%", b"%G0", b"\x7f"];
         for other in others {
             assert!(rt; decode_word(alloc, other)?.is_none());
         }
@@ -91,7 +91,7 @@ mod tests {
         let mut bytes = Vec::from_slice(alloc, b"epoch\n\n")?;
         bytes.extend_from_slice(&vec![in alloc; b'a'; 9_000]?)?;
         bytes.extend_from_slice(b"\nflush\nlast")?;
-        let mut source = Narrow(MemSource::new(bytes, vec![in alloc; 4, 2_900]?));
+        let mut source = Narrow(MemSource::new(bytes, vec![in alloc; 3, 2_900]?));
         let mut lines = Lines::new(alloc, 4_294_967_295)?;
         let mut out = Vec::new(alloc);
         for _ in 0..9 {
@@ -99,7 +99,7 @@ mod tests {
         }
         assert_eq!(rt;
             out.as_slice(),
-            b"epoch,,(fault),(fault),(long),flush,last,(end),(end),".as_slice()
+            b"epoch,(fault),,(fault),(long),flush,last,(end),(end),".as_slice()
         );
         Ok(())
     }
@@ -107,16 +107,21 @@ mod tests {
     #[test]
     fn the_limit(rt: HostRuntime) -> Result<(), Fail> {
         let alloc = rt.alloc();
-        let mut source = MemSource::new(
-            Vec::from_slice(alloc, b"epoch\nepoch\n")?,
-            Vec::new(alloc),
-        );
-        let mut lines = Lines::new(alloc, 10)?;
-        let mut out = Vec::new(alloc);
-        for _ in 0..3 {
+        let cases: [(u64, &[u8]); 2] = [(10, b"epoch,(much),(much),"), (12, b"epoch,epoch,(end),")];
+        for (limit, told) in cases {
+            let mut source = MemSource::new(
+                Vec::from_slice(alloc, b"epoch\nepoch\n")?,
+                Vec::new(alloc),
+            );
+            let mut lines = Lines::new(alloc, limit)?;
+            let mut out = Vec::new(alloc);
             tell(&mut lines, &mut source, &mut out)?;
+            assert_eq!(rt; lines.holds_line(), limit == 12);
+            for _ in 0..2 {
+                tell(&mut lines, &mut source, &mut out)?;
+            }
+            assert_eq!(rt; out.as_slice(), told);
         }
-        assert_eq!(rt; out.as_slice(), b"epoch,(much),(much),".as_slice());
         Ok(())
     }
 }
