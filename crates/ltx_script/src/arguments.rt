@@ -65,7 +65,7 @@ pub(crate) fn table_of(word: &[u8]) -> Result<Table, Refusal>
 }
 
 /// What the type of bytes says, as a clause.
-fn are_bytes(bytes: &[u8])
+pub(crate) fn are_bytes(bytes: &[u8])
     ensures { AreBytes bytes.now }
 {}
 

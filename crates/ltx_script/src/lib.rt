@@ -3,6 +3,7 @@
 
 mod arguments;
 mod cuts;
+pub mod limits;
 pub mod parse;
 mod pieces;
 pub mod print;
@@ -76,8 +77,13 @@ mod tests {
                 Line::Good(_) => assert!(rt; false),
             }
         }
-        let long = vec![in alloc; b'a'; 4_097]?;
-        assert!(rt; matches!(parse_line(alloc, &long)?, Line::Bad(Bad::Long)));
+        let lengths: [(usize, Bad); 2] = [(4_096, Bad::Session), (4_097, Bad::Long)];
+        for (length, cause) in lengths {
+            match parse_line(alloc, &vec![in alloc; b'a'; length]?)? {
+                Line::Bad(found) => assert_eq!(rt; found, cause),
+                Line::Good(_) => assert!(rt; false),
+            }
+        }
         Ok(())
     }
 }

@@ -1,0 +1,102 @@
+//! What the types of a command's parts say of them, as clauses: each command is within its limits. So what is said of
+//! spellings of commands within their limits is said of every command.
+
+ghost use Rattle.std.specs.Prelude.{◌<◌, ◌≤◌, ◌^◌, ℕ, List, length};
+ghost use Rattle.ltx_script.specs.Commands.{IsBound, IsCommand, IsKey, IsOperation, IsValue, IsVerb};
+
+use crate::arguments::are_bytes;
+use ltx_model::bytes::{Bound, Key, Value};
+use ltx_model::commands::{Command, Op, Verb};
+use ltx_model::numbers::Table;
+use ltx_model::tables::TableSet;
+
+/// There are 64 tables.
+fn table(table: Table)
+    ensures { table < 64 }
+{
+    let _ = table.number();
+}
+
+/// A set of tables has one bit for each.
+fn set(set: TableSet)
+    ensures { set < 2 ^ 64 }
+{
+    if let Some(first) = Table::new(0) {
+        let _ = set.has(first);
+    }
+}
+
+/// A key is 1 to 64 bytes.
+fn key(key: &Key)
+    ensures { IsKey key.now }
+{
+    are_bytes(key.bytes());
+}
+
+/// An end of a scan is 0 to 64 bytes.
+fn bound(bound: &Bound)
+    ensures { IsBound bound.now }
+{
+    are_bytes(bound.bytes());
+}
+
+/// A value is 0 to 1,024 bytes.
+fn value(value: &Value)
+    ensures { IsValue value.now }
+{
+    are_bytes(value.bytes());
+}
+
+/// An operation is on one of the tables, its parts within their limits.
+fn operation(op: &Op)
+    ensures { IsOperation op.now }
+{
+    match op {
+        Op::Get { table: t, key: k } | Op::Del { table: t, key: k } => {
+            table(*t);
+            key(k);
+        }
+        Op::Scan {
+            table: t,
+            low,
+            high,
+        } => {
+            table(*t);
+            bound(low);
+            bound(high);
+        }
+        Op::Put {
+            table: t,
+            key: k,
+            value: v,
+        } => {
+            table(*t);
+            key(k);
+            value(v);
+        }
+    }
+}
+
+/// The parts of what a session asks are within their limits.
+fn verb(verb: &Verb)
+    ensures { IsVerb verb.now }
+{
+    match verb {
+        Verb::Long { writes, reads } => {
+            set(*writes);
+            set(*reads);
+        }
+        Verb::Do(op) => operation(op),
+        _ => {}
+    }
+}
+
+/// That the parts of the command are within their limits.
+pub fn is_within_limits(command: &Command)
+    ensures { IsCommand command.now }
+{
+    if let Command::Ask(session, asked) = command {
+        let _ = session.number();
+        verb(asked);
+    }
+}
