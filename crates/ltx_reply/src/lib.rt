@@ -6,7 +6,7 @@ mod guess;
 mod kinds;
 pub mod limits;
 mod parts;
-pub mod pieces;
+mod pieces;
 pub mod print;
 pub mod read;
 mod unread;
