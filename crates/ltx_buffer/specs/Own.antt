@@ -1,11 +1,16 @@
 -- A transaction's own writes, and a scan's rows with them over it.
-use Rattle.std.specs.Prelude.{ℕ, Bool, ◌==◌, ◌&&◌, not, List, [], ◌∷◌, filter, Option, Some, None, option_map}
+use Rattle.std.specs.Prelude.{ℕ, Bool, ◌==◌, ◌&&◌, not, List, [], ◌∷◌, map, filter, Option, Some, None, option_map}
 use Rattle.std.specs.List.{find}
 use Rattle.ltx_model.specs.declared.rows.Row.{Row}
 use Rattle.ltx_model.specs.declared.rows.StoredRow.{StoredRow}
 use Rattle.ltx_model.specs.declared.writes.Write.{Write}
 use Rattle.ltx_model.specs.Keys.{Cell, same_cell, in_range, put_in_order}
 use Rattle.ltx_model.specs.Operations.{cell_of_write}
+
+-- The writes of a transaction, of each key the last one, in order of table and key, and how many more can be noted without taking memory.
+pub record Own : Type 0 where
+  pub writes : List Write
+  pub room : ℕ
 
 -- the write of a key, if there is one
 abbrev pub write_at : List Write → Cell → Option Write
@@ -37,3 +42,7 @@ is_between table low high w = (w.table == table) && in_range low high w.key
 -- the rows of a scan of the table from low on and below high, with the writes of that range over them
 abbrev pub merged : List Write → ℕ → List ℕ → List ℕ → List Row → List Row
 merged writes table low high rows = rows_under table rows (filter (is_between table low high) writes)
+
+-- the keys of a range of the table that are written, in order
+abbrev pub keys_between : List Write → ℕ → List ℕ → List ℕ → List (List ℕ)
+keys_between writes table low high = map (λ w. w.key) (filter (is_between table low high) writes)

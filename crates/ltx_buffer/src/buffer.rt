@@ -1,13 +1,13 @@
 //! The writes of an open transaction: of each key that it wrote the last write, in order of table
 //! and key, for what it sees of them and for its commit.
 
-ghost use Rattle.std.specs.Prelude.{◌≡◌, [], IfOk, OnOk, OnErr, option_copied};
+ghost use Rattle.std.specs.Prelude.{◌≡◌, ◌<◌, ◌≤◌, [], length, insert, vec_capacity, IfOk, OnOk, OnErr, option_copied};
 ghost use Rattle.ltx_model.specs.Keys.{IsRising, put_in_order};
 ghost use Rattle.ltx_model.specs.Operations.{cell_of_write};
-ghost use Rattle.ltx_buffer.specs.Own.{write_at, cell_in, merged};
+ghost use Rattle.ltx_buffer.specs.Own.{write_at, cell_in, merged, keys_between};
 
 use crate::merge::merge;
-use crate::places::{place_of, writes_between};
+use crate::places::{keys_of, place_of, writes_between};
 use ltx_model::bytes::{Bound, Key};
 use ltx_model::memory::NoMemory;
 use ltx_model::numbers::Table;
@@ -22,16 +22,17 @@ pub struct Buffer {
     writes: Vec<Write>,
 }
 
-// Clauses see the writes, in order of table and key.
+// Clauses see the writes, in order of table and key, and how many more can be noted without taking
+// memory.
 impl Model for Buffer {
-    ghost use Rattle.std.specs.Prelude.{List};
-    ghost use Rattle.ltx_model.specs.declared.writes.Write.{Write};
+    ghost use Rattle.std.specs.Prelude.{vec_capacity, ◌-◌, length};
     ghost use Rattle.ltx_model.specs.Keys.{IsRising};
     ghost use Rattle.ltx_model.specs.Operations.{cell_of_write};
+    ghost use Rattle.ltx_buffer.specs.Own.{Own};
 
-    ghost Value = { List Write };
+    ghost Value = { Own };
 
-    ghost view = { λ b. b.writes.items };
+    ghost view = { λ b. record { writes = b.writes.items; room = vec_capacity b.writes - length b.writes.items } };
 
     ghost invariant = { λ b. IsRising cell_of_write b.writes.items };
 }
@@ -39,31 +40,49 @@ impl Model for Buffer {
 impl Buffer {
     /// A buffer without writes, which takes no memory.
     pub fn new(alloc: Global) -> Buffer
-        ensures { result ≡ [] }
+        ensures { result.writes ≡ [] }
     {
         Buffer {
             writes: Vec::new(alloc),
         }
     }
 
-    /// Notes a write, which takes the place of an earlier one of its key. After NoMemory nothing has
-    /// changed.
+    /// Makes room for a write. The writes stay as they are, after NoMemory too.
+    pub fn reserve_one(&mut self) -> Result<(), NoMemory>
+        ensures writes { self.new.writes ≡ self.old.writes }
+        ensures made { OnOk result (0 < self.new.room) }
+    {
+        self.writes.reserve(1)?;
+        Ok(())
+    }
+
+    /// Notes a write, for which there is room. It takes the place of an earlier one of its key.
     #[tactic(auto, using(crate::proofs::Search::put_found, crate::proofs::Search::put_gap))]
-    pub fn note(&mut self, write: Write) -> Result<(), NoMemory>
-        ensures noted { OnOk result (self.new ≡ put_in_order cell_of_write write self.old) }
-        ensures kept { OnErr result (self.new ≡ self.old) }
+    pub fn put(&mut self, write: Write)
+        requires room { 0 < self.old.room }
+        ensures put { self.new.writes ≡ put_in_order cell_of_write write self.old.writes }
     {
         match place_of(&self.writes, write.table, &write.key) {
             Ok(place) => self.writes[place] = write,
-            Err(place) => self.writes.insert(place, write)?,
+            Err(place) => insert_at(&mut self.writes, place, write),
         }
+    }
+
+    /// Notes a write, which takes the place of an earlier one of its key. After NoMemory the writes
+    /// are as before.
+    pub fn note(&mut self, write: Write) -> Result<(), NoMemory>
+        ensures noted { OnOk result (self.new.writes ≡ put_in_order cell_of_write write self.old.writes) }
+        ensures kept { OnErr result (self.new.writes ≡ self.old.writes) }
+    {
+        self.reserve_one()?;
+        self.put(write);
         Ok(())
     }
 
     /// The write of the key.
     #[tactic(auto, using(crate::proofs::Search::write_at_found, crate::proofs::Search::write_at_gap))]
     pub fn own(&self, table: Table, key: &Key) -> Option<&Write>
-        ensures { option_copied result ≡ write_at self.now (record { table = table; key = key.now }) }
+        ensures { option_copied result ≡ write_at self.now.writes (record { table = table; key = key.now }) }
     {
         match place_of(&self.writes, table, key) {
             Ok(place) => self.writes.get(place),
@@ -83,7 +102,7 @@ impl Buffer {
         rows: Vec<Row>,
     ) -> Result<Vec<Row>, NoMemory>
         requires rising { IsRising (cell_in table) rows.items }
-        ensures merged { IfOk result (λ all. all.items ≡ merged self.now table low.now high.now rows.items) }
+        ensures merged { IfOk result (λ all. all.items ≡ merged self.now.writes table low.now high.now rows.items) }
         ensures rising { IfOk result (λ all. IsRising (cell_in table) all.items) }
     {
         let own = writes_between(&self.writes, table, low, high);
@@ -93,22 +112,44 @@ impl Buffer {
         merge(alloc, own, rows)
     }
 
+    /// Copies of the keys of a range of the table that have an own write, in their order.
+    pub fn keys_between(
+        &self,
+        alloc: Global,
+        table: Table,
+        low: &Bound,
+        high: &Bound,
+    ) -> Result<Vec<Key>, NoMemory>
+        ensures { IfOk result (λ keys. keys.items ≡ keys_between self.now.writes table low.now high.now) }
+    {
+        keys_of(alloc, writes_between(&self.writes, table, low, high))
+    }
+
     /// The writes, in order of table and key, one for each key.
     pub fn writes(&self) -> &[Write]
-        ensures value { result.now ≡ self.now }
-        ensures rising { IsRising cell_of_write self.now }
+        ensures value { result.now ≡ self.now.writes }
+        ensures rising { IsRising cell_of_write self.now.writes }
     {
         &self.writes
     }
 
     /// The writes, out of the buffer, in order of table and key, one for each key.
     pub fn into_writes(self) -> Vec<Write>
-        ensures value { result.items ≡ self }
-        ensures rising { IsRising cell_of_write self }
+        ensures value { result.items ≡ self.writes }
+        ensures rising { IsRising cell_of_write self.writes }
     {
         let Buffer { writes } = self;
         writes
     }
+}
+
+// Puts the write at its place, where there is room for it.
+fn insert_at(writes: &mut Vec<Write>, place: usize, write: Write)
+    requires in_range { place ≤ length writes.old.items }
+    requires room { length writes.old.items < vec_capacity writes.old }
+    ensures { writes.new.items ≡ insert writes.old.items place write }
+{
+    let _ = writes.insert(place, write);
 }
 
 #[cfg(test)]
@@ -153,6 +194,7 @@ mod tests {
         let all = Bound::from_bytes(Vec::new(alloc))?;
         let rows = buffer.merge(alloc, table, &all, &all, Vec::new(alloc))?;
         assert_eq!(rt; rows.len(), 1);
+        assert_eq!(rt; buffer.keys_between(alloc, table, &all, &all)?.len(), 2);
         assert_eq!(rt; buffer.into_writes().len(), 2);
         Ok(())
     }

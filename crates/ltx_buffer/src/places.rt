@@ -1,6 +1,6 @@
 //! Searches among writes that stand in rising order of table and key.
 
-ghost use Rattle.std.specs.Prelude.{◌≡◌, filter, IfOk, IfErr};
+ghost use Rattle.std.specs.Prelude.{◌≡◌, filter, map, IfOk, IfErr};
 ghost use Rattle.ltx_model.specs.Keys.{IsRising};
 ghost use Rattle.ltx_model.specs.Operations.{cell_of_write};
 ghost use Rattle.ltx_buffer.specs.Own.{is_between};
@@ -8,8 +8,10 @@ ghost use Rattle.ltx_buffer.specs.Places.{IsFoundAt, IsGapAt, IsSplitAt, end_of}
 
 use ltx_model::bytes::{Bound, Key};
 use ltx_model::commands::compare_cells;
+use ltx_model::memory::NoMemory;
 use ltx_model::numbers::Table;
 use ltx_model::writes::Write;
+use std::alloc::Global;
 
 // Where the key's write stands, or where it would go.
 pub(crate) fn place_of(writes: &[Write], table: Table, key: &Key) -> Result<usize, usize>
@@ -59,4 +61,15 @@ fn count_to_end(writes: &[Write], table: Table, high: &Bound) -> usize
     } else {
         count_below(writes, table.number(), high.bytes())
     }
+}
+
+// Copies of the keys of the writes, in their order.
+pub(crate) fn keys_of(alloc: Global, writes: &[Write]) -> Result<Vec<Key>, NoMemory>
+    ensures { IfOk result (λ keys. keys.items ≡ map (λ w. w.key) writes.now) }
+{
+    let mut keys = Vec::with_capacity(alloc, writes.len())?;
+    for write in writes {
+        keys.push(write.key.copy()?)?;
+    }
+    Ok(keys)
 }

@@ -51,7 +51,8 @@ up_to_put mark e (y ∷ ys) own all = by_cmp (cell_cmp (cell_of_kept e) (cell_of
   by_cmp Equal rest = (own, all.1)
   by_cmp Greater rest = (all.0, rest)
 
-up_to_items : (mark : ℕ) (kept : List Kept) (c : Cell) → AreUpTo mark kept → AllByRecursion (λ v. v.mark ≤ mark) (versions_at kept c)
+-- so do all versions of each key
+pub up_to_items : (mark : ℕ) (kept : List Kept) (c : Cell) → AreUpTo mark kept → AllByRecursion (λ v. v.mark ≤ mark) (versions_at kept c)
 up_to_items mark [] c all = tt
 up_to_items mark (e ∷ es) c all = by_test (same_cell (cell_of_kept e) c) (up_to_items mark es c all.1) where
   by_test : (b : Bool) → AllByRecursion (λ v. v.mark ≤ mark) (versions_at es c) → AllByRecursion (λ (v : Version). v.mark ≤ mark) (items_of (option_map (λ (k : Kept). k.versions) (cond b (Some e) (kept_at es c))))

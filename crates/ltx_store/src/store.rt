@@ -105,6 +105,7 @@ impl Store {
     ) -> Result<Scanned, NoMemory>
         ensures rows { IfOk result (λ scanned. scanned.rows.items ≡ rows_between (rows_at mark self.now) table low.now high.now) }
         ensures looks { IfOk result (λ scanned. scanned.looks.items ≡ looks_between mark self.now table low.now high.now) }
+        ensures in_order { IsRising cell_of_kept self.now }
     {
         table::scan(
             alloc,

@@ -1,5 +1,5 @@
 use Rattle.std.proofs.Common.{◌≡◌, ◌∙◌, IfOk, sym, subst, arith}
-use Rattle.ltx_store.proofs.Places.{IsPlace}
+use Rattle.ltx_store.proofs.Places.{IsPlace, kept_rising}
 use Rattle.ltx_store.proofs.InPlace.{rows_in_place, looks_in_place}
 use Rattle.ltx_store.proofs.store.Store.scan_at.Goals as goal
 
@@ -10,4 +10,5 @@ returns c =
     record {
       rows = subst (λ r. IfOk c.scan.result (λ s. s.rows.items ≡ r)) (sym (rows_in_place p c.args.low.now c.args.high.now c.args.mark)) c.scan.ensures.rows;
       looks = subst (λ r. IfOk c.scan.result (λ s. s.looks.items ≡ r)) (sym (looks_in_place p c.args.low.now c.args.high.now c.args.mark)) c.scan.ensures.looks;
+      in_order = kept_rising p;
     }
