@@ -1,10 +1,8 @@
--- An outcome is what the state answers, and the core then stands for the state after it.
-use Rattle.std.proofs.Common.{◌≡◌, ℕ, ◌+◌, Bool, true, false, cond, ◌==◌, List, [], ◌∷◌, ◌++◌, map, length, Option, Some, None, is_some, IfSome, IfNone, Result, Ok, Err, IfOk, refl, sym, ap, ◌∙◌, subst, nat_le}
-use Rattle.std.specs.Option.{option_map}
+-- Each command of a core that stands for a history: the reply is the state's, and the core then stands for the history with the entry.
+use Rattle.std.proofs.Common.{◌≡◌, ◌≢◌, inl, ℕ, ◌+◌, Bool, true, false, cond, ◌==◌, List, [], ◌∷◌, ◌++◌, length, set, Option, Some, None, is_some, IfSome, IfNone, refl, sym, ap, ◌∙◌, subst, nat_le}
 use Rattle.std.specs.List.{find, AllByRecursion}
-use Rattle.std.proofs.lemmas.List.{map-append}
+use Rattle.std.proofs.lemmas.Bool.{leb-true, leb-false}
 use Rattle.ltx_model.specs.declared.commands.Op.{Op}
-use Rattle.ltx_model.specs.declared.commands.Op.TheVariants.{Get, Scan, Put, Del}
 use Rattle.ltx_model.specs.declared.commands.Verb.{Verb}
 use Rattle.ltx_model.specs.declared.commands.Verb.TheVariants as verbs
 use Rattle.ltx_model.specs.declared.commands.Command.{Command}
@@ -14,304 +12,218 @@ use Rattle.ltx_model.specs.declared.commands.Line.TheVariants as lines
 use Rattle.ltx_model.specs.declared.replies.Entry.{Entry}
 use Rattle.ltx_model.specs.declared.replies.Reply.{Reply}
 use Rattle.ltx_model.specs.declared.replies.Reply.TheVariants as replies
-use Rattle.ltx_model.specs.declared.rows.StoredRow.{StoredRow}
-use Rattle.ltx_model.specs.Lists.{without_first}
-use Rattle.ltx_model.specs.Keys.{IsRising}
-use Rattle.ltx_model.specs.StoredRows.{cell_of, row_at}
-use Rattle.ltx_model.specs.Operations.{Transaction, operations, table_of}
-use Rattle.ltx_model.specs.Rows.{rows_after_all, reply_on, found, run, see}
-use Rattle.ltx_model.specs.Agenda.{Committed, CommitShort, serial}
-use Rattle.ltx_model.specs.States.{IsShort, Step, Active, Base, State, transaction_of, first_state, is_of, active_of, latest, order}
-use Rattle.ltx_model.specs.Histories.{to_active, begun, answered, with_step, closed, moved, committed, commit_move, ended, left, made_live, with_kind, slot_after, slots_after, in_epoch, advanced, reply_changes, state}
-use Rattle.ltx_model.specs.Shorts.{first_change}
-use Rattle.ltx_model.specs.Shorts.{Change as ModelChange}
-use Rattle.ltx_model.specs.Answers.{operation, operation_in, operation_of_short, counted, is_full, commit_in, commit_short, checked, begin_short, short_reply, command_reply, answer, staged}
+use Rattle.ltx_model.specs.Lists.{change_first}
+use Rattle.ltx_model.specs.Keys.{Cell, IsRising}
+use Rattle.ltx_model.specs.StoredRows.{cell_of}
+use Rattle.ltx_model.specs.Notes.{AreNotes}
+use Rattle.ltx_model.specs.States.{IsShort, Active, Base, IsSound, State, first_state, is_of, active_of, latest}
+use Rattle.ltx_model.specs.Histories.{to_active, begun, ended, advanced, reply_changes, state}
+use Rattle.ltx_model.specs.Answers.{begin_short, short_reply, command_reply, answer, staged}
 use Rattle.ltx_model.specs.Answers.{commit as state_commit, abort as state_abort, advance as state_advance}
-use Rattle.ltx_model.proofs.OneMore.{after-is, see-is, run-none, run-push, state-none, state-push}
-use Rattle.ltx_lemmas.proofs.Lists.{all_push, all_find, all_without, all_change, without_nothing}
-use Rattle.ltx_lemmas.proofs.Serials.{serial_push}
-use Rattle.ltx_lemmas.proofs.Rising.{rising_after_all}
+use Rattle.ltx_model.proofs.OneMore.{run-none, state-none}
+use Rattle.ltx_lemmas.proofs.Lists.{all_map, without_nothing}
+use Rattle.ltx_chain.specs.declared.chain.Version.{Version}
+use Rattle.ltx_chain.specs.Versions as versions
+use Rattle.ltx_store.specs.Kept.{versions_at, latest_rows}
 use Rattle.ltx_core.specs.Built.{built}
-use Rattle.ltx_core.specs.Notes.{ShortView, CoreView, is_session, operations_of}
+use Rattle.ltx_core.specs.Views.{ShortView, CoreView, is_session}
 use Rattle.ltx_core.specs.Places.{IsFirst}
-use Rattle.ltx_core.specs.Outcomes.{Outcome, without_short, outcome, begin, begun_if, operate, done_if, commit, accepted, accepted_unless, abort, advanced_unless, verb_outcome}
-use Rattle.ltx_core.specs.Stands.{view_of, IsPlainShort, StandsForState, StandsFor}
-use Rattle.ltx_core.proofs.FirstPlace.{at_place, find_first}
-use Rattle.ltx_core.proofs.Views.{ops_kept, length_kept, find_views, without_views, change_views, no_holder, no_held, changes_kept}
-use Rattle.ltx_core.proofs.Differences.{kept}
+use Rattle.ltx_core.specs.Events.{short_of, with_active}
+use Rattle.ltx_core.specs.Outcomes.{Leaves, BeginsUnless, Begins, IsAnswered, Operates, Aborts, AdvancesUnless, in_epoch, Serves, Applies}
+use Rattle.ltx_core.specs.Stands.{HasMark, AreTold, IsOpen, AreOpen, StandsFor}
+use Rattle.ltx_core.proofs.FirstPlace.{at_place, find_first, change_first_at}
+use Rattle.ltx_core.proofs.Opens.{FoundBoth, opens_find, opens_push, opens_shorts, advanced_shorts, with_epoch}
+use Rattle.ltx_core.proofs.Stays.{StandsAt, stands_at, stands_there, IsStep}
+use Rattle.ltx_core.proofs.Operated.{operated_none, operated_full, operated_at}
+use Rattle.ltx_core.proofs.Bases.{latest_rising}
+use Rattle.ltx_core.proofs.Moments.{longer_at, Leads, step_leads}
+use Rattle.ltx_core.proofs.Committed.{ended_stands, commit_step}
 
--- An outcome at a state: its reply, and the core that it leaves.
-pub record IsStep (s : State) (line : Line) (reply : Reply) (o : Outcome) : Type 0 where
-  pub reply_is : o.reply ≡ reply
-  pub stands : StandsForState o.core (reply_changes s line reply)
+abbrev begins : ℕ → Line
+begins session = lines.Good (commands.Ask session verbs.Short)
 
--- the core that a state has
-abbrev pub core_of : State → CoreView
-core_of s = record { rows = latest s; order = order s; active = map view_of s.active; epoch = s.epoch; durable = s.durable; last = s.last }
+abbrev aborts : ℕ → Line
+aborts session = lines.Good (commands.Ask session verbs.Abort)
 
-pub core_is : (core : CoreView) (s : State) → StandsForState core s → core ≡ core_of s
-core_is core s stands = λ i. record { rows = stands.rows i; order = stands.order i; active = stands.active i; epoch = stands.epoch i; durable = stands.durable i; last = stands.last i }
-
--- all open transactions are shorts, and the latest rows stand in order
-record Plain (s : State) : Type 0 where
-  shorts : AllByRecursion IsPlainShort s.active
-  rising : IsRising cell_of (latest s)
-
-stays : (s : State) → Plain s → StandsForState (core_of s) s
-stays s plain = record { rows = refl; rising = plain.rising; order = refl; epoch = refl; durable = refl; last = refl; active = refl; shorts = plain.shorts }
-
-short_kind : (s : State) (session : ℕ) (o : Active) → Plain s → active_of s session ≡ Some o → IsPlainShort o
-short_kind s session o all is = all_find IsPlainShort (is_of session) s.active o all.shorts is
-
--- begin
-begun_step : (s : State) (session : ℕ) → Plain s → active_of s session ≡ None → StandsForState (begun_if false (core_of s) session).core (begun s IsShort (s.last + 1) session)
-begun_step s session plain none =
-    let new : Active = record { session = session; kind = IsShort; number = s.last + 1; steps = [] } in
-    let same : without_first (is_of session) s.active ≡ s.active = without_nothing (is_of session) s.active none in
-    record {
-      rows = refl;
-      rising = plain.rising;
-      order = refl;
-      epoch = refl;
-      durable = refl;
-      last = refl;
-      active = sym (map-append view_of s.active (new ∷ [])) ∙ ap (λ l. map view_of (l ++ new ∷ [])) (sym same);
-      shorts = all_push IsPlainShort (without_first (is_of session) s.active) new (all_without IsPlainShort (is_of session) s.active plain.shorts) (record { short = refl; rising = tt });
-    }
-
-begin_step : (s : State) (session : ℕ) (o : Option Active) → Plain s → active_of s session ≡ o
-    → IsStep s (lines.Good (commands.Ask session verbs.Short)) (begin_short s o) (begin (core_of s) session (option_map view_of o))
-begin_step s session (Some o) plain is = record { reply_is = refl; stands = stays s plain }
-begin_step s session None plain is = by_test (s.last == 9223372036854775807) where
-  by_test : (b : Bool) → IsStep s (lines.Good (commands.Ask session verbs.Short)) (short_reply s b) (begun_if b (core_of s) session)
-  by_test true = record { reply_is = refl; stands = stays s plain }
-  by_test false = record { reply_is = refl; stands = begun_step s session plain is }
-
--- an operation
-abbrev done : ℕ → Op → Line
-done session op = lines.Good (commands.Ask session (verbs.Do op))
-
-answers : (s : State) (session : ℕ) (op : Op) (rows : List StoredRow) → answered s op (reply_on rows op) session ≡ reply_changes s (done session op) (reply_on rows op)
-answers s session (Get table key) rows = by_row (row_at rows (record { table = table; key = key })) where
-  by_row : (r : Option StoredRow) → answered s (Get table key) (found r) session ≡ reply_changes s (done session (Get table key)) (found r)
-  by_row None = refl
-  by_row (Some row) = refl
-answers s session (Scan table low high) rows = refl
-answers s session (Put table key value) rows = refl
-answers s session (Del table key) rows = refl
-
-answers_see : (s : State) (session : ℕ) (op : Op) (tx : ℕ) (ops : List Op) → answered s op (see tx (latest s) ops op) session ≡ reply_changes s (done session op) (see tx (latest s) ops op)
-answers_see s session op tx ops =
-    let e = see-is tx (latest s) ops op in
-    ap (λ r. answered s op r session) e ∙ answers s session op (rows_after_all tx (latest s) ops) ∙ ap (reply_changes s (done session op)) (sym e)
-
-do_step : (s : State) (session : ℕ) (op : Op) (o : Active) → Plain s → active_of s session ≡ Some o
-    → IsStep s (done session op) (counted (is_full (transaction_of o)) (latest s) (transaction_of o) op) (done_if (nat_le 65536 (length (view_of o).notes)) (core_of s) session (view_of o) op)
-do_step s session op o all is =
-    subst (λ n. IsStep s (done session op) (counted (is_full (transaction_of o)) (latest s) (transaction_of o) op) (done_if (nat_le 65536 n) (core_of s) session (view_of o) op)) (sym (length_kept o))
-    (by_test (is_full (transaction_of o))) where
-      reply : Reply
-      reply = see o.number (latest s) (operations (transaction_of o)) op
-
-      b : Step
-      b = record { op = op; reply = reply; latest = latest s }
-
-      stands : StandsForState (done_if false (core_of s) session (view_of o) op).core (answered s op reply session)
-      stands = record {
-        rows = refl;
-        rising = all.rising;
-        order = refl;
-        epoch = refl;
-        durable = refl;
-        last = refl;
-        active = change_views session b s.active o is;
-        shorts = all_change IsPlainShort IsPlainShort (is_of session) (with_step b) s.active (λ u p. p)
-            (λ u here p. record { short = p.short; rising = all_push (λ d. IsRising cell_of d.latest) u.steps b p.rising all.rising }) all.shorts;
-      }
-
-      by_test : (t : Bool) → IsStep s (done session op) (counted t (latest s) (transaction_of o) op) (done_if t (core_of s) session (view_of o) op)
-      by_test true = record { reply_is = refl; stands = stays s all }
-      by_test false = record {
-        reply_is = ap (λ (l : List Op). see o.number (latest s) l op) (ops_kept o);
-        stands = subst (StandsForState (done_if false (core_of s) session (view_of o) op).core) (answers_see s session op o.number (operations (transaction_of o))) stands;
-      }
-
-operate_step : (s : State) (session : ℕ) (op : Op) (o : Option Active) → Plain s → active_of s session ≡ o
-    → IsStep s (done session op) (operation s o op) (operate (core_of s) session (option_map view_of o) op)
-operate_step s session op None all is = record { reply_is = refl; stands = stays s all }
-operate_step s session op (Some o) all is =
-    let core : Outcome = operate (core_of s) session (Some (view_of o)) op in
-    subst (λ k. IsStep s (done session op) (operation_in s k (transaction_of o) op) core) (sym (short_kind s session o all is).short)
-    (subst (λ h. IsStep s (done session op) (operation_of_short s h (transaction_of o) op) core) (sym (no_holder s all.shorts (table_of op)))
-    (do_step s session op o all is))
-
--- the end of a short
-closed_stands : (s : State) (session : ℕ) → Plain s → StandsForState (without_short (core_of s) session) (closed s session)
-closed_stands s session all = record {
-  rows = refl;
-  rising = all.rising;
-  order = refl;
-  epoch = refl;
-  durable = refl;
-  last = refl;
-  active = without_views session s.active;
-  shorts = all_without IsPlainShort (is_of session) s.active all.shorts;
-}
-
-ended_stands : (s : State) (session : ℕ) (o : Active) → Plain s → active_of s session ≡ Some o → StandsForState (without_short (core_of s) session) (ended s o session)
-ended_stands s session o all is = subst (λ k. StandsForState (without_short (core_of s) session) (left (closed s session) k o.number)) (sym (short_kind s session o all is).short) (closed_stands s session all)
-
-accepted_stands : (s : State) (session : ℕ) (o : Active) → Plain s → active_of s session ≡ Some o → StandsForState (accepted (core_of s) session (view_of o)).core (committed s o session)
-accepted_stands s session o all is =
-    let t = transaction_of o in
-    let core : CoreView = (accepted (core_of s) session (view_of o)).core in
-    let more : serial (s.agenda ++ Committed t ∷ []) ≡ serial s.agenda ++ t ∷ [] = serial_push s.agenda t in
-    let now : core.rows ≡ run s.base (serial (s.agenda ++ Committed t ∷ [])) =
-    ap (λ (l : List Op). rows_after_all o.number (latest s) l) (ops_kept o) ∙ sym (ap (run s.base) more ∙ run-push s.base (serial s.agenda) t) in
-    let numbers : core.order ≡ map (λ u. u.number) (serial (s.agenda ++ Committed t ∷ [])) =
-    sym (ap (map (λ u. u.number)) more ∙ map-append (λ u. u.number) (serial s.agenda) (t ∷ [])) in
-    let stands : StandsForState core (moved (closed s session) s.epoch (CommitShort t)) = record {
-      rows = now;
-      rising = rising_after_all o.number (latest s) (operations_of (view_of o).notes) all.rising;
-      order = numbers;
-      epoch = refl;
-      durable = refl;
-      last = refl;
-      active = without_views session s.active;
-      shorts = all_without IsPlainShort (is_of session) s.active all.shorts;
-    } in
-    subst (λ k. StandsForState core (moved (closed s session) s.epoch (commit_move k t))) (sym (short_kind s session o all is).short) stands
-
--- commit
 abbrev commits : ℕ → Line
 commits session = lines.Good (commands.Ask session verbs.Commit)
 
-checked_step : (s : State) (session : ℕ) (o : Active) → Plain s → active_of s session ≡ Some o → (change : Option ModelChange)
-    → IsStep s (commits session) (checked s change) (accepted_unless (core_of s) session (view_of o) (option_map kept change))
-checked_step s session o all is (Some c) = record {
-  reply_is = refl;
-  stands = subst (λ f. StandsForState (without_short (core_of s) session) (to_active s f (λ u. ended s u session))) (sym is) (ended_stands s session o all is);
-}
-checked_step s session o all is None = record {
-  reply_is = refl;
-  stands = subst (λ f. StandsForState (accepted (core_of s) session (view_of o)).core (to_active s f (λ u. committed s u session))) (sym is) (accepted_stands s session o all is);
-}
-
-commit_step : (s : State) (session : ℕ) (o : Option Active) → Plain s → active_of s session ≡ o
-    → IsStep s (commits session) (state_commit s o) (commit (core_of s) session (option_map view_of o))
-commit_step s session None all is = record { reply_is = refl; stands = stays s all }
-commit_step s session (Some o) all is =
-    let core : Outcome = commit (core_of s) session (Some (view_of o)) in
-    subst (λ k. IsStep s (commits session) (commit_in s k o) core) (sym (short_kind s session o all is).short)
-    (subst (λ h. IsStep s (commits session) (commit_short s h o) core) (sym (no_held s all.shorts (operations (transaction_of o))))
-    (subst (λ c. IsStep s (commits session) (checked s (first_change (latest s) o.steps)) (accepted_unless (core_of s) session (view_of o) c))
-    (sym (changes_kept (latest s) o (short_kind s session o all is) all.rising))
-    (checked_step s session o all is (first_change (latest s) o.steps))))
-
--- abort
-abort_step : (s : State) (session : ℕ) (o : Option Active) → Plain s → active_of s session ≡ o
-    → IsStep s (lines.Good (commands.Ask session verbs.Abort)) (state_abort o) (abort (core_of s) session (option_map view_of o))
-abort_step s session None all is = record { reply_is = refl; stands = stays s all }
-abort_step s session (Some o) all is = record {
-  reply_is = refl;
-  stands = subst (λ f. StandsForState (without_short (core_of s) session) (to_active s f (λ u. ended s u session))) (sym is) (ended_stands s session o all is);
-}
-
--- the next epoch
-live_same : (snapshot : List Transaction) (os : List Active) → AllByRecursion IsPlainShort os → map (λ o. with_kind (made_live snapshot o.kind) o) os ≡ os
-live_same snapshot [] all = refl
-live_same snapshot (o ∷ os) all =
-    let short = all.0.short in
-    let same : with_kind (made_live snapshot o.kind) o ≡ o = ap (λ k. with_kind (made_live snapshot k) o) short ∙ ap (λ k. with_kind k o) (sym short) in
-    λ i. same i ∷ live_same snapshot os all.1 i
-
-no_slots : (epoch : ℕ) (s : State) (os : List Active) → AllByRecursion IsPlainShort os → slots_after epoch s os ≡ s
-no_slots epoch s [] all = refl
-no_slots epoch s (o ∷ os) all = ap (λ k. slots_after epoch (slot_after epoch s k o.number) os) all.0.short ∙ no_slots epoch s os all.1
-
-advanced_stands : (s : State) → Plain s → StandsForState (advanced_unless false (core_of s)).core (advanced s (s.epoch + 1))
-advanced_stands s all =
-    let same = live_same (serial s.agenda) s.active all.shorts in
-    subst (StandsForState (advanced_unless false (core_of s)).core) (sym (no_slots (s.epoch + 1) (in_epoch s (s.epoch + 1)) s.active all.shorts)) (record {
-      rows = refl;
-      rising = all.rising;
-      order = refl;
-      epoch = refl;
-      durable = refl;
-      last = refl;
-      active = ap (map view_of) (sym same);
-      shorts = subst (AllByRecursion IsPlainShort) (sym same) all.shorts;
-    })
-
-advance_step : (s : State) (b : Bool) → Plain s → IsStep s (lines.Good commands.Epoch) (state_advance s b) (advanced_unless b (core_of s))
-advance_step s true all = record { reply_is = refl; stands = stays s all }
-advance_step s false all = record { reply_is = refl; stands = advanced_stands s all }
-
--- each command
-later_step : (s : State) (line : Line) → Plain s → IsStep s line replies.Later (record { reply = replies.Later; core = core_of s })
-later_step s line all = record { reply_is = refl; stands = stays s all }
-
-abbrev staged_reply : State → Command → Reply
-staged_reply s command = cond (built s (lines.Good command)) (command_reply s command) replies.Later
-
-verb_step : (s : State) (session : ℕ) (verb : Verb) → Plain s → IsStep s (lines.Good (commands.Ask session verb)) (staged_reply s (commands.Ask session verb)) (verb_outcome (core_of s) session verb)
-verb_step s session verbs.Short all =
-    subst (λ o. IsStep s (lines.Good (commands.Ask session verbs.Short)) (begin_short s (active_of s session)) (begin (core_of s) session o)) (sym (find_views session s.active)) (begin_step s session (active_of s session) all refl)
-verb_step s session (verbs.Long writes reads) all = later_step s (lines.Good (commands.Ask session (verbs.Long writes reads))) all
-verb_step s session (verbs.Do op) all =
-    subst (λ o. IsStep s (done session op) (operation s (active_of s session) op) (operate (core_of s) session o op)) (sym (find_views session s.active)) (operate_step s session op (active_of s session) all refl)
-verb_step s session verbs.Commit all =
-    subst (λ o. IsStep s (commits session) (state_commit s (active_of s session)) (commit (core_of s) session o)) (sym (find_views session s.active)) (commit_step s session (active_of s session) all refl)
-verb_step s session verbs.Abort all =
-    subst (λ o. IsStep s (lines.Good (commands.Ask session verbs.Abort)) (state_abort (active_of s session)) (abort (core_of s) session o)) (sym (find_views session s.active)) (abort_step s session (active_of s session) all refl)
-
-command_step : (s : State) (command : Command) → Plain s → IsStep s (lines.Good command) (staged_reply s command) (outcome (core_of s) command)
-command_step s commands.Epoch all = advance_step s (s.epoch == 4294967294) all
-command_step s commands.Flush all = later_step s (lines.Good commands.Flush) all
-command_step s commands.Prune all = later_step s (lines.Good commands.Prune) all
-command_step s (commands.Ask session verb) all = verb_step s session verb all
-
-answer_is : (s : State) (command : Command) → answer s (lines.Good command) ≡ command_reply s command
+-- what a state answers a line that is built, and one that is not
+staged_is : (s : State) (command : Command) → cond (built s (lines.Good command)) (command_reply s command) replies.Later ≡ staged built s (lines.Good command)
 unfolding answer
-answer_is s command = refl
+staged_is s command = refl
 
-staged_is : (s : State) (command : Command) → staged_reply s command ≡ staged built s (lines.Good command)
-staged_is s command = ap (λ r. cond (built s (lines.Good command)) r replies.Later) (sym (answer_is s command))
-
--- A step of the core is a step of each history that it stands for.
-module _ (old new : CoreView) (command : Command) (reply : Reply) (is : ◌≡◌ {A = Outcome} (record { reply = reply; core = new }) (outcome old command)) (base : Base) (history : List Entry) (stands : StandsFor old base history) where
+module _ (base : Base) (history : List Entry) (old : CoreView) (at : StandsAt old base history (state base history)) where
   abbrev s : State
   s = state base history
 
-  at_state : ◌≡◌ {A = Outcome} (record { reply = reply; core = new }) (outcome (core_of s) command)
-  at_state = is ∙ ap (λ c. outcome c command) (core_is old s stands)
+  -- nothing has changed
+  quiet_leads : (line : Line) (answer reply : Reply) (new : CoreView) → reply_changes s line answer ≡ s → Leaves answer old reply new → Leads base history line answer reply new
+  quiet_leads line answer reply new same does = record {
+    reply_is = does.0;
+    stands = λ more. subst (λ c. StandsAt c base (history ++ more) (reply_changes s line answer)) (sym does.1) (subst (StandsAt old base (history ++ more)) (sym same) (longer_at old base history more s at));
+  }
 
-  step : IsStep s (lines.Good command) (staged_reply s command) (outcome (core_of s) command)
-  step = command_step s command (record { shorts = stands.shorts; rising = subst (IsRising cell_of) stands.rows stands.rising })
+  -- begin
+  abbrev begun_core : ShortView → CoreView
+  begun_core a = record { store = old.store; order = old.order; active = old.active ++ a ∷ []; epoch = old.epoch; durable = old.durable; last = old.last + 1 }
 
-  pub step_reply : reply ≡ staged built (state base history) (lines.Good command)
-  step_reply = ap (λ (o : Outcome). o.reply) at_state ∙ step.reply_is ∙ staged_is s command
+  begun_at : (session : ℕ) (a : ShortView) → active_of s session ≡ None → a.session ≡ session → a.tx ≡ record { tx = old.last + 1; notes = [] } → a.own.writes ≡ []
+      → StandsAt (begun_core a) base history (begun s IsShort (s.last + 1) session)
+  begun_at session a none whose tx own =
+      let o : Active = record { session = session; kind = IsShort; number = s.last + 1; steps = [] } in
+      let opened : IsOpen base history o a = record {
+        session = whose;
+        number = ap (λ t. t.tx) tx ∙ ap (λ n. n + 1) at.last;
+        short = refl;
+        own = own;
+        notes = subst (λ t. AreNotes [] t.notes) (sym tx) tt;
+        told = subst (λ t. AreTold base history [] t.notes) (sym tx) tt;
+        rising = tt;
+      } in
+      record {
+        epoch = at.epoch;
+        durable = at.durable;
+        last = ap (λ n. n + 1) at.last;
+        order = at.order;
+        rows = at.rows;
+        deletions = at.deletions;
+        marks = at.marks;
+        commits = at.commits;
+        active = subst (λ os. AreOpen base history (os ++ o ∷ []) (old.active ++ a ∷ [])) (sym (without_nothing (is_of session) s.active none)) (opens_push base history s.active old.active o a at.active opened);
+      }
 
-  pub step_stands : StandsFor new base (history ++ record { line = lines.Good command; reply = reply } ∷ [])
-  step_stands =
-      let entry : Entry = record { line = lines.Good command; reply = reply } in
-      let same : reply ≡ staged_reply s command = ap (λ (o : Outcome). o.reply) at_state ∙ step.reply_is in
-      let there : StandsForState (outcome (core_of s) command).core (reply_changes s (lines.Good command) reply) =
-      subst (λ r. StandsForState (outcome (core_of s) command).core (reply_changes s (lines.Good command) r)) (sym same) step.stands in
-      let here : StandsForState new (reply_changes s (lines.Good command) reply) = subst (λ c. StandsForState c (reply_changes s (lines.Good command) reply)) (sym (ap (λ (o : Outcome). o.core) at_state)) there in
-      subst (StandsForState new) (sym (state-push (first_state base) history entry ∙ after-is s (lines.Good command) reply)) here
+  begin_step : (session : ℕ) (o : Option Active) (a : Option ShortView) (reply : Reply) (new : CoreView) → active_of s session ≡ o → FoundBoth base history o a
+      → Begins old session a reply new → Leads base history (begins session) (begin_short s o) reply new
+  begin_step session None (Some a) reply new is both does = absurd both
+  begin_step session (Some o) None reply new is both does = absurd both
+  begin_step session (Some o) (Some a) reply new is both does = quiet_leads (begins session) replies.HasTx reply new refl does
+  begin_step session None None reply new is both does =
+      by_test (s.last == 9223372036854775807) (subst (λ n. BeginsUnless (n == 9223372036854775807) old session reply new) at.last does) where
+        by_test : (b : Bool) → BeginsUnless b old session reply new → Leads base history (begins session) (short_reply s b) reply new
+        by_test true d = quiet_leads (begins session) replies.LimitTx reply new refl d
+        by_test false d = record {
+          reply_is = d.leaves.0 ∙ ap (λ n. replies.Begun (n + 1)) at.last;
+          stands = λ more. subst (λ c. StandsAt c base (history ++ more) (begun s IsShort (s.last + 1) session)) (sym d.leaves.1)
+              (longer_at (begun_core d.short) base history more (begun s IsShort (s.last + 1) session) (begun_at session d.short is d.session_is d.tx d.own));
+        }
+
+  -- abort
+  abort_step : (session : ℕ) (o : Option Active) (a : Option ShortView) (reply : Reply) (new : CoreView) → active_of s session ≡ o → FoundBoth base history o a
+      → Aborts old session a reply new → Leads base history (aborts session) (state_abort o) reply new
+  abort_step session None (Some a) reply new is both does = absurd both
+  abort_step session (Some o) None reply new is both does = absurd both
+  abort_step session None None reply new is both does = quiet_leads (aborts session) replies.NoTx reply new refl does
+  abort_step session (Some o) (Some a) reply new is opened does = record {
+    reply_is = does.0;
+    stands = λ more. subst (λ c. StandsAt c base (history ++ more) (to_active s (active_of s session) (λ u. ended s u session))) (sym does.1) (ended_stands base history old at session o is a opened more);
+  }
+
+  -- the next epoch
+  advanced_at : StandsAt (in_epoch old (old.epoch + 1)) base history (with_epoch s (s.epoch + 1))
+  advanced_at = record {
+    epoch = ap (λ n. n + 1) at.epoch;
+    durable = at.durable;
+    last = at.last;
+    order = at.order;
+    rows = at.rows;
+    deletions = at.deletions;
+    marks = at.marks;
+    commits = at.commits;
+    active = at.active;
+  }
+
+  advance_step : (reply : Reply) (new : CoreView) (b : Bool) → AdvancesUnless b old reply new → Leads base history (lines.Good commands.Epoch) (state_advance s b) reply new
+  advance_step reply new true does = quiet_leads (lines.Good commands.Epoch) replies.LimitEpoch reply new refl does
+  advance_step reply new false does = record {
+    reply_is = does.0 ∙ ap (λ n. replies.Advanced (n + 1)) at.epoch;
+    stands = λ more. subst (λ c. StandsAt c base (history ++ more) (advanced s (s.epoch + 1))) (sym does.1)
+        (subst (StandsAt (in_epoch old (old.epoch + 1)) base (history ++ more)) (sym (advanced_shorts s (s.epoch + 1) (opens_shorts base history s.active old.active at.active)))
+        (longer_at (in_epoch old (old.epoch + 1)) base history more (with_epoch s (s.epoch + 1)) advanced_at));
+  }
+
+module _ (base : Base) (history : List Entry) (sound : IsSound base) (old : CoreView) (stands : StandsFor old base history) where
+  abbrev now : State
+  now = state base history
+
+  here : StandsAt old base history now
+  here = stands_at old base history stands
+
+  rising : IsRising cell_of (latest now)
+  rising = latest_rising base history sound
+
+  both : (session : ℕ) → FoundBoth base history (active_of now session) (short_of old session)
+  both session = opens_find base history session now.active old.active stands.active
+
+  -- an operation
+  abbrev asks : ℕ → Op → Line
+  asks session op = lines.Good (commands.Ask session (verbs.Do op))
+
+  is_step : (line : Line) (answer reply : Reply) (left new : CoreView) → Leaves answer left reply new → IsStep left base history line answer → IsStep new base history line reply
+  is_step line answer reply left new does step =
+      subst (λ c. IsStep c base history line reply) (sym does.1) (subst (IsStep left base history line) (sym does.0) step)
+
+  do_step : (session : ℕ) (op : Op) (a : Option ShortView) (reply : Reply) (new : CoreView) → short_of old session ≡ a → Operates old session a op reply new → IsStep new base history (asks session op) reply
+  do_step session op None reply new is does = is_step (asks session op) replies.NoTx reply old new does (operated_none old base history session op stands is)
+  do_step session op (Some a) reply new is does = by_test (nat_le 65536 (length a.tx.notes)) refl does.answered where
+    same_core : new.active ≡ old.active → new ≡ old
+    same_core e = does.core ∙ ap (with_active old) e
+
+    changed : (b : ShortView) → new.active ≡ set old.active does.place b → new ≡ with_active old (change_first (is_session session) (λ u. b) old.active)
+    changed b e =
+        let found = at_place old.active does.place does.first.within in
+        does.core ∙ ap (with_active old) (e ∙ sym (change_first_at (is_session session) (λ u. b) old.active does.place found.0 does.first found.1))
+
+    by_test : (t : Bool) → nat_le 65536 (length a.tx.notes) ≡ t → IsAnswered t old.store old.active does.place a op reply new.active → IsStep new base history (asks session op) reply
+    by_test true full d = is_step (asks session op) replies.LimitOps reply old new (d.0, same_core d.1) (operated_full old base history session op stands a is (leb-true 65536 (length a.tx.notes) full))
+    by_test false room d = operated_at old base history session op stands new a d.short reply rising is (leb-false 65536 (length a.tx.notes) room) d.done (changed d.short d.active)
+
+  verb_step : (session : ℕ) (verb : Verb) (reply : Reply) (new : CoreView) → Serves old session verb reply new → IsStep new base history (lines.Good (commands.Ask session verb)) reply
+  verb_step session verbs.Short reply new does =
+      step_leads base history (begins session) (begin_short now (active_of now session)) reply new (staged_is now (commands.Ask session verbs.Short))
+      (begin_step base history old here session (active_of now session) (short_of old session) reply new refl (both session) does)
+  verb_step session (verbs.Long writes reads) reply new does =
+      step_leads base history (lines.Good (commands.Ask session (verbs.Long writes reads))) replies.Later reply new (staged_is now (commands.Ask session (verbs.Long writes reads)))
+      (quiet_leads base history old here (lines.Good (commands.Ask session (verbs.Long writes reads))) replies.Later reply new refl does)
+  verb_step session (verbs.Do op) reply new does = do_step session op (short_of old session) reply new refl does
+  verb_step session verbs.Commit reply new does =
+      step_leads base history (commits session) (state_commit now (active_of now session)) reply new (staged_is now (commands.Ask session verbs.Commit))
+      (commit_step base history old here session (active_of now session) (short_of old session) reply new refl (both session) rising does)
+  verb_step session verbs.Abort reply new does =
+      step_leads base history (aborts session) (state_abort (active_of now session)) reply new (staged_is now (commands.Ask session verbs.Abort))
+      (abort_step base history old here session (active_of now session) (short_of old session) reply new refl (both session) does)
+
+  command_step : (command : Command) (reply : Reply) (new : CoreView) → Applies old command reply new → IsStep new base history (lines.Good command) reply
+  command_step commands.Epoch reply new does =
+      step_leads base history (lines.Good commands.Epoch) (state_advance now (now.epoch == 4294967294)) reply new (staged_is now commands.Epoch)
+      (advance_step base history old here reply new (now.epoch == 4294967294) (subst (λ n. AdvancesUnless (n == 4294967294) old reply new) stands.epoch does))
+  command_step commands.Flush reply new does =
+      step_leads base history (lines.Good commands.Flush) replies.Later reply new (staged_is now commands.Flush) (quiet_leads base history old here (lines.Good commands.Flush) replies.Later reply new refl does)
+  command_step commands.Prune reply new does =
+      step_leads base history (lines.Good commands.Prune) replies.Later reply new (staged_is now commands.Prune) (quiet_leads base history old here (lines.Good commands.Prune) replies.Later reply new refl does)
+  command_step (commands.Ask session verb) reply new does = verb_step session verb reply new does
+
+  -- a step of a core
+  pub step_reply : (command : Command) (reply : Reply) (new : CoreView) → Applies old command reply new → reply ≡ staged built (state base history) (lines.Good command)
+  step_reply command reply new does = (command_step command reply new does).reply_is
+
+  pub step_stands : (command : Command) (reply : Reply) (new : CoreView) → Applies old command reply new → StandsFor new base (history ++ record { line = lines.Good command; reply = reply } ∷ [])
+  step_stands command reply new does = (command_step command reply new does).stands
 
 -- a new core
-pub new_stands : (base : Base) (core : CoreView) → IsRising cell_of base.rows → core.rows ≡ base.rows → core.order ≡ [] → core.active ≡ [] → core.epoch ≡ base.durable + 1 → core.durable ≡ base.durable → core.last ≡ base.last → StandsFor core base []
-new_stands base core rising rows order active epoch durable last = subst (StandsForState core) (sym (state-none (first_state base))) (record {
-  rows = rows ∙ sym (run-none base.rows);
-  rising = subst (IsRising cell_of) (sym rows) rising;
-  order = order;
+pub new_stands : (base : Base) (core : CoreView) → latest_rows core.store ≡ base.rows → ((cell : Cell) → AllByRecursion (λ v. v.mark ≡ 0) (versions_at core.store cell))
+    → ((cell : Cell) (v : Version) → versions.latest (versions_at core.store cell) ≡ Some v → v.put ≢ None)
+    → core.order ≡ [] → core.active ≡ [] → core.epoch ≡ base.durable + 1 → core.durable ≡ base.durable → core.last ≡ base.last → StandsFor core base []
+new_stands base core rows firsts puts order active epoch durable last = stands_there core base [] (first_state base) (state-none (first_state base)) (record {
   epoch = epoch;
   durable = durable;
   last = last;
-  active = active;
-  shorts = tt;
+  order = order;
+  rows = rows ∙ sym (run-none base.rows);
+  deletions = λ cell v is deletes. absurd (puts cell v is deletes);
+  marks = λ cell. all_map (λ v. v.mark ≡ 0) (HasMark []) (λ v first. inl first) (versions_at core.store cell) (firsts cell);
+  commits = ap length (sym order);
+  active = subst (AreOpen base [] []) (sym active) tt;
 })
 
 -- whether a session has an open transaction
@@ -319,22 +231,19 @@ place_tells : (active : List ShortView) (session : ℕ) (place : Option ℕ) →
     → is_some place ≡ is_some (find (is_session session) active)
 place_tells active session None some none = ap is_some (sym none)
 place_tells active session (Some place) some none =
-    let here = at_place active place some.within in
-    ap is_some (sym (find_first (is_session session) active place here.0 some here.1))
+    let found = at_place active place some.within in
+    ap is_some (sym (find_first (is_session session) active place found.0 some found.1))
 
-some_mapped : {A B : Type 0} (f : A → B) (o : Option A) → is_some (option_map f o) ≡ is_some o
-some_mapped f None = refl
-some_mapped f (Some x) = refl
+both_some : (base : Base) (history : List Entry) (o : Option Active) (a : Option ShortView) → FoundBoth base history o a → is_some a ≡ is_some o
+both_some base history None None found = refl
+both_some base history None (Some a) found = absurd found
+both_some base history (Some o) None found = absurd found
+both_some base history (Some o) (Some a) found = refl
 
 pub has_tells : (core : CoreView) (active : List ShortView) (session : ℕ) (place : Option ℕ) (base : Base) (history : List Entry) → active ≡ core.active
     → IfSome place (IsFirst (is_session session) active) → IfNone place (find (is_session session) active ≡ None)
     → StandsFor core base history → is_some place ≡ is_some (active_of (state base history) session)
 has_tells core active session place base history same some none stands =
     place_tells active session place some none
-    ∙ ap (λ l. is_some (find (is_session session) l)) (same ∙ stands.active)
-    ∙ ap is_some (find_views session (state base history).active)
-    ∙ some_mapped view_of (active_of (state base history) session)
-
-pub if_ok : {T E : Type 0} (P Q : T → Type 0) → ((x : T) → P x → Q x) → (r : Result T E) → IfOk r P → IfOk r Q
-if_ok P Q f (Ok x) p = f x p
-if_ok P Q f (Err e) p = tt
+    ∙ ap (λ l. is_some (find (is_session session) l)) same
+    ∙ both_some base history (active_of (state base history) session) (short_of core session) (opens_find base history session (state base history).active core.active stands.active)

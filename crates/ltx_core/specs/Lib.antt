@@ -1,6 +1,7 @@
 pub mod Built
 pub mod Places
-pub mod Ranges
-pub mod Notes
+pub mod Views
+pub mod Events
+pub mod Seen
 pub mod Outcomes
 pub mod Stands

@@ -1,43 +1,84 @@
 -- A core stands for a base and a history.
-use Rattle.std.specs.Prelude.{◌≡◌, List, map}
+use Rattle.std.specs.Prelude.{◌≡◌, ◌⊎◌, ℕ, ◌-◌, true, false, List, [], ◌∷◌, ◌++◌, map, length, slice_get, Some, None}
 use Rattle.std.specs.List.{AllByRecursion}
+use Rattle.ltx_model.specs.declared.looked.Noted.{Noted}
 use Rattle.ltx_model.specs.declared.replies.Entry.{Entry}
-use Rattle.ltx_model.specs.Lists.{Numbered, numbered}
-use Rattle.ltx_model.specs.States.{IsShort, Step, Active, Base, State, latest, order}
-use Rattle.ltx_model.specs.Histories.{state}
-use Rattle.ltx_model.specs.Keys.{IsRising}
+use Rattle.ltx_model.specs.declared.rows.StoredRow.{StoredRow}
+use Rattle.ltx_model.specs.declared.writes.Look.{Look}
+use Rattle.ltx_model.specs.Keys.{Cell, IsRising}
 use Rattle.ltx_model.specs.StoredRows.{cell_of}
-use Rattle.ltx_core.specs.declared.short.Noted.{Noted}
-use Rattle.ltx_core.specs.Notes.{ShortView, CoreView, note_of}
+use Rattle.ltx_model.specs.Operations.{Transaction, operations, writes_key, writes_of}
+use Rattle.ltx_model.specs.Agenda.{serial, commits_of}
+use Rattle.ltx_model.specs.Notes.{AreNotes}
+use Rattle.ltx_model.specs.States.{IsShort, Step, Active, Base, latest, order}
+use Rattle.ltx_model.specs.Histories.{state}
+use Rattle.ltx_buffer.specs.Own.{write_at}
+use Rattle.ltx_chain.specs.declared.chain.Version.{Version}
+use Rattle.ltx_chain.specs.Versions as versions
+use Rattle.ltx_store.specs.Kept.{versions_at, latest_rows}
+use Rattle.ltx_core.specs.Views.{ShortView, CoreView}
+use Rattle.ltx_core.specs.Events.{looks_in}
 
--- what is kept of an answered operation, after those before it
-abbrev pub noted : Numbered Step → Noted
-noted n = note_of n.item.latest (map (λ b. b.op) n.earlier) n.item.op
+-- In an order of transactions the last one that writes the key is this one, and its last write of the key is a deletion.
+pub record IsDeletion (ts : List Transaction) (cell : Cell) (writer : ℕ) : Type 0 where
+  pub front : List Transaction
+  pub tx : Transaction
+  pub back : List Transaction
+  pub parts : ts ≡ front ++ tx ∷ back
+  pub number : tx.number ≡ writer
+  pub deletes : write_at (writes_of (operations tx)) cell ≡ Some (record { table = cell.table; key = cell.key; put = None })
+  pub last : AllByRecursion (λ u. writes_key (operations u) cell ≡ false) back
 
--- what is kept of an open transaction
-abbrev pub view_of : Active → ShortView
-view_of o = record { session = o.session; number = o.number; notes = map noted (numbered o.steps) }
+-- After some front of the history the latest rows were these, and the key's last write in the order was a deletion by this transaction.
+pub record WasDeletion (base : Base) (history : List Entry) (rows : List StoredRow) (cell : Cell) (writer : ℕ) : Type 0 where
+  pub earlier : List Entry
+  pub later : List Entry
+  pub parts : history ≡ earlier ++ later
+  pub rows_then : latest (state base earlier) ≡ rows
+  pub deleted : IsDeletion (serial (state base earlier).agenda) cell writer
 
--- the open transaction is a short, as long as nothing else is built, and the rows stood in order at each of its steps
-pub record IsPlainShort (o : Active) : Type 0 where
+-- a look of a deletion names the transaction that had deleted the key at the moment of the operation
+abbrev pub IsTold : Base → List Entry → List StoredRow → ℕ → Look → Type 0
+IsTold base history rows table look = look.gone ≡ true → WasDeletion base history rows (record { table = table; key = look.key }) look.writer
+
+abbrev pub AreTold : Base → List Entry → List Step → List Noted → Type 0
+AreTold base history [] [] = Unit {0}
+AreTold base history (b ∷ bs) (n ∷ ns) = AllByRecursion (IsTold base history b.latest n.table) (looks_in n.reach) × AreTold base history bs ns
+AreTold base history bs ns = ⊥
+
+-- What is kept of an open transaction, which is a short as long as nothing else is built: its notes are those of its steps, its own
+-- writes the last ones of each key.
+pub record IsOpen (base : Base) (history : List Entry) (o : Active) (a : ShortView) : Type 0 where
+  pub session : a.session ≡ o.session
+  pub number : a.tx.tx ≡ o.number
   pub short : o.kind ≡ IsShort
+  pub own : a.own.writes ≡ writes_of (map (λ b. b.op) o.steps)
+  pub notes : AreNotes o.steps a.tx.notes
+  pub told : AreTold base history o.steps a.tx.notes
   pub rising : AllByRecursion (λ b. IsRising cell_of b.latest) o.steps
 
--- what a core keeps is what the state has
-pub record StandsForState (core : CoreView) (s : State) : Type 0 where
-  pub epoch : core.epoch ≡ s.epoch
-  pub durable : core.durable ≡ s.durable
-  pub last : core.last ≡ s.last
-  -- the latest rows, all of them and no others
-  pub rows : core.rows ≡ latest s
-  -- they stand in rising order of table and key
-  pub rising : IsRising cell_of core.rows
-  -- the committed members of the agenda, in order
-  pub order : core.order ≡ order s
-  -- the open transactions, each with its operations and their look-ups
-  pub active : core.active ≡ map view_of s.active
-  pub shorts : AllByRecursion IsPlainShort s.active
+abbrev pub AreOpen : Base → List Entry → List Active → List ShortView → Type 0
+AreOpen base history [] [] = Unit {0}
+AreOpen base history (o ∷ os) (a ∷ as') = IsOpen base history o a × AreOpen base history os as'
+AreOpen base history os as' = ⊥
 
--- the core is where the history leads from the base
-abbrev pub StandsFor : CoreView → Base → List Entry → Type 0
-StandsFor core base history = StandsForState core (state base history)
+-- the mark of a version is the number of commits up to and with its writer's, and 0 where it is a row of the base
+abbrev pub HasMark : List ℕ → Version → Type 0
+HasMark commits v = (v.mark ≡ 0) ⊎ (slice_get commits (v.mark - 1) ≡ Some v.writer)
+
+-- The core is where the history leads from the base.
+pub record StandsFor (core : CoreView) (base : Base) (history : List Entry) : Type 0 where
+  pub epoch : core.epoch ≡ (state base history).epoch
+  pub durable : core.durable ≡ (state base history).durable
+  pub last : core.last ≡ (state base history).last
+  -- the committed members of the agenda, in order
+  pub order : core.order ≡ order (state base history)
+  -- the rows of the store at the newest mark are the latest rows, all of them and no others
+  pub rows : latest_rows core.store ≡ latest (state base history)
+  -- each deletion at the newest mark is the last write of its key in the order
+  pub deletions : (cell : Cell) (v : Version) → versions.latest (versions_at core.store cell) ≡ Some v → v.put ≡ None → IsDeletion (serial (state base history).agenda) cell v.writer
+  -- marks are numbers of commits, in time
+  pub marks : (cell : Cell) → AllByRecursion (HasMark (map (λ t. t.number) (commits_of (state base history).moves))) (versions_at core.store cell)
+  pub commits : length (commits_of (state base history).moves) ≡ length core.order
+  -- the open transactions, each with its notes and own writes
+  pub active : AreOpen base history (state base history).active core.active

@@ -1,11 +1,7 @@
 //! One event of the engine at a time: a command, its reply and the state after it.
 #![tactic(auto)]
 
-mod change;
-mod range;
-mod rows;
-mod scan;
-mod see;
+mod install;
 mod short;
 mod step;
 

@@ -1,31 +1,32 @@
 //! The core: the state of a run, changed by one command at a time.
-//! It keeps the latest rows, the committed transactions' numbers in order, and each open short with its operations.
+//! It keeps the versions of all keys, the committed transactions' numbers in order, and each open short.
 
-ghost use Rattle.std.specs.Prelude.{◌≡◌, ◌≢◌, ◌<◌, ◌≤◌, [], ◌∷◌, ◌++◌, ℕ, List, Option, Some, None, IfSome, IfNone, IsOk, IfOk, OnOk, OnErr, length, slice_index_or, slice_set, true, is_some};
-ghost use Rattle.std.specs.List.{find};
+ghost use Rattle.std.specs.Prelude.{◌≡◌, ◌≢◌, ◌<◌, [], ◌∷◌, ◌++◌, ℕ, List, IfSome, IfNone, IsOk, IfOk, OnErr, slice_index_or, slice_set, nat_le, true, length, is_some};
+ghost use Rattle.std.specs.List.{find, remove};
 ghost use Rattle.ltx_model.specs.declared.commands.Command.TheVariants.{Flush};
 ghost use Rattle.ltx_model.specs.declared.commands.Line.TheVariants.{Good};
-ghost use Rattle.ltx_model.specs.declared.replies.Reply.TheVariants.{Changed};
 ghost use Rattle.ltx_model.specs.declared.replies.Entry.{Entry};
-ghost use Rattle.ltx_model.specs.States.{Base, IsSound, base_of, active_of, order};
+ghost use Rattle.ltx_model.specs.declared.replies.Reply.TheVariants.{Committed};
+ghost use Rattle.ltx_model.specs.States.{Base, IsSound, base_of, active_of, latest, order};
 ghost use Rattle.ltx_model.specs.Histories.{state};
 ghost use Rattle.ltx_model.specs.Answers.{staged, IsLegalWith};
-ghost use Rattle.ltx_core.specs.Notes.{ShortView, is_session, with_note};
+ghost use Rattle.ltx_store.specs.Kept.{AreUpTo, latest_rows};
+ghost use Rattle.ltx_core.specs.Views.{ShortView, is_session};
 ghost use Rattle.ltx_core.specs.Places.{IsFirst};
 ghost use Rattle.ltx_core.specs.Built.{built, is_abort, takes_no_memory};
-ghost use Rattle.ltx_core.specs.Outcomes.{short_of, begin, operate, commit, accepted_at, abort, advance, verb_outcome, outcome};
+ghost use Rattle.ltx_core.specs.Events.{IsSame, AreSameShorts, HasCommitted, short_of};
+ghost use Rattle.ltx_core.specs.Outcomes.{Begins, IsAnswered, Operates, HasDecided, Commits, Aborts, Advances, Serves, Applies};
 ghost use Rattle.ltx_core.specs.Stands.{StandsFor};
 
-use crate::change::{Change, first_change};
-use crate::rows::{install, puts};
-use crate::see::see;
-use crate::short::{Noted, Short};
+use crate::install::{install, load};
+use crate::short::Short;
 use ltx_model::base::Recovered;
 use ltx_model::commands::{Command, Op, Verb};
 use ltx_model::memory::NoMemory;
 use ltx_model::numbers::{Session, Tx};
 use ltx_model::replies::Reply;
-use ltx_model::rows::StoredRow;
+use ltx_store::store::Store;
+use ltx_validate::check::{Verdict, check_short};
 use std::alloc::Global;
 use std::marker::Model;
 
@@ -36,7 +37,7 @@ const LAST_EPOCH: u32 = 4_294_967_294;
 #[derive(Debug, Drop)]
 pub struct Core {
     alloc: Global,
-    rows: Vec<StoredRow>,
+    store: Store,
     order: Vec<Tx>,
     active: Vec<Short>,
     epoch: u32,
@@ -45,14 +46,13 @@ pub struct Core {
 }
 
 impl Model for Core {
-    ghost use Rattle.std.specs.Prelude.{◌≤◌};
-    ghost use Rattle.ltx_core.specs.Notes.{CoreView, IsKept};
+    ghost use Rattle.ltx_core.specs.Views.{CoreView, IsKept};
 
     ghost Value = { CoreView };
 
-    ghost view = { λ c. record { rows = c.rows.items; order = c.order.items; active = c.active.items; epoch = c.epoch; durable = c.durable; last = c.last } };
+    ghost view = { λ c. record { store = c.store; order = c.order.items; active = c.active.items; epoch = c.epoch; durable = c.durable; last = c.last } };
 
-    ghost invariant = { λ c. IsKept c.rows.items c.epoch c.last };
+    ghost invariant = { λ c. IsKept c.store c.order.items c.epoch c.last };
 }
 
 // Where the short of a session stands.
@@ -68,34 +68,32 @@ fn place_of(active: &[Short], session: Session) -> Option<usize>
     None
 }
 
-// One operation more for the short at a place.
-fn note_at(active: &mut Vec<Short>, place: usize, noted: Noted) -> Result<(), NoMemory>
+// An operation of the short at a place, unless it has done as many as it may do.
+fn operate_at(
+    alloc: Global,
+    active: &mut Vec<Short>,
+    place: usize,
+    store: &Store,
+    newest: u64,
+    op: &Op,
+) -> Result<Reply, NoMemory>
     requires within { place < length active.old.items }
-    requires room { (a : ShortView) → a ≡ slice_index_or active.old.items place a → length a.notes < 65536 }
-    ensures ok { OnOk result ((a : ShortView) → a ≡ slice_index_or active.old.items place a → active.new.items ≡ slice_set active.old.items place (with_note noted a)) }
-    ensures err { OnErr result (active.new.items ≡ active.old.items) }
+    requires newest { AreUpTo newest store.now }
+    ensures ok { IfOk result (λ reply. (a : ShortView) → a ≡ slice_index_or active.old.items place a
+        → IsAnswered (nat_le 65536 (length a.tx.notes)) store.now active.old.items place a op.now reply active.new.items) }
+    ensures err { OnErr result (AreSameShorts active.old.items active.new.items) }
 {
     let short = &mut active[place];
-    short.note(noted)
-}
-
-// The reply that a change is.
-fn changed(change: Change) -> Reply
-    ensures { result ≡ Changed change.op change.table change.key change.found change.current }
-{
-    Reply::Changed {
-        op: change.op,
-        table: change.table,
-        key: change.key,
-        found: change.found,
-        current: change.current,
+    if short.is_full() {
+        return Ok(Reply::LimitOps);
     }
+    short.operate(alloc, store, newest, op)
 }
 
 impl Core {
     // A short begins, where the session has no open transaction and there is a number left.
     fn begin(&mut self, session: Session) -> Result<Reply, NoMemory>
-        ensures ok { IfOk result (λ reply. record { reply = reply; core = self.new } ≡ begin self.old session (short_of self.old session)) }
+        ensures ok { IfOk result (λ reply. Begins self.old session (short_of self.old session) reply self.new) }
         ensures err { OnErr result (self.new ≡ self.old) }
     {
         match place_of(&self.active, session) {
@@ -113,43 +111,52 @@ impl Core {
 
     // An operation of the session's short: its reply, by its own operations over the latest rows.
     fn operate(&mut self, session: Session, op: &Op) -> Result<Reply, NoMemory>
-        ensures ok { IfOk result (λ reply. record { reply = reply; core = self.new } ≡ operate self.old session (short_of self.old session) op.now) }
-        ensures err { OnErr result (self.new ≡ self.old) }
+        ensures ok { IfOk result (λ reply. Operates self.old session (short_of self.old session) op.now reply self.new) }
+        ensures err { OnErr result (IsSame self.old self.new) }
     {
         match place_of(&self.active, session) {
             None => Ok(Reply::NoTx),
             Some(place) => {
-                let short = &self.active[place];
-                if short.is_full() {
-                    return Ok(Reply::LimitOps);
-                }
-                let seen = see(self.alloc, &self.rows, short.tx(), short.notes(), op)?;
-                let noted = Noted {
-                    op: op.copy()?,
-                    look: seen.look,
-                };
-                note_at(&mut self.active, place, noted)?;
-                Ok(seen.reply)
+                let newest = self.order.len() as u64;
+                operate_at(self.alloc, &mut self.active, place, &self.store, newest, op)
             }
         }
     }
 
     // The session's short commits, or is refused by its first look-up that has changed.
     fn commit(&mut self, session: Session) -> Result<Reply, NoMemory>
-        ensures ok { IfOk result (λ reply. record { reply = reply; core = self.new } ≡ commit self.old session (short_of self.old session)) }
-        ensures err { OnErr result (self.new ≡ self.old) }
+        ensures ok { IfOk result (λ reply. Commits self.old session (short_of self.old session) reply self.new) }
+        ensures err { OnErr result (IsSame self.old self.new) }
     {
         match place_of(&self.active, session) {
             None => Ok(Reply::NoTx),
-            Some(place) => {
-                let short = &self.active[place];
-                match first_change(&self.rows, short.notes())? {
-                    Some(change) => {
-                        self.active.remove(place);
-                        Ok(changed(change))
-                    }
-                    None => self.accept(place),
-                }
+            Some(place) => self.decide(place),
+        }
+    }
+
+    // Commits or refuses the short at a place.
+    fn decide(&mut self, place: usize) -> Result<Reply, NoMemory>
+        requires within { place < length self.old.active }
+        ensures ok { IfOk result (λ reply. (a : ShortView) → a ≡ slice_index_or self.old.active place a → HasDecided self.old place a reply self.new) }
+        ensures err { OnErr result (IsSame self.old self.new) }
+    {
+        match check_short(self.active[place].notes(), &self.store)? {
+            Verdict::Pass => self.accept(place),
+            Verdict::Changed {
+                op,
+                table,
+                key,
+                found,
+                current,
+            } => {
+                self.active.remove(place);
+                Ok(Reply::Changed {
+                    op,
+                    table,
+                    key,
+                    found,
+                    current,
+                })
             }
         }
     }
@@ -157,22 +164,27 @@ impl Core {
     // Commits the short at a place. All memory is taken before the first change.
     fn accept(&mut self, place: usize) -> Result<Reply, NoMemory>
         requires within { place < length self.old.active }
-        ensures ok { IfOk result (λ reply. (a : ShortView) → a ≡ slice_index_or self.old.active place a
-            → record { reply = reply; core = self.new } ≡ accepted_at self.old place a) }
-        ensures err { OnErr result (self.new ≡ self.old) }
+        ensures reply { IfOk result (λ reply. reply ≡ Committed self.old.epoch) }
+        ensures ok { IfOk result (λ reply. (a : ShortView) → a ≡ slice_index_or self.old.active place a → HasCommitted self.old place a self.new) }
+        ensures err { OnErr result (IsSame self.old self.new) }
     {
-        self.rows.reserve(puts(self.active[place].notes()))?;
+        self.store.reserve(self.alloc, self.active[place].writes())?;
         self.order.reserve(1)?;
         let short = self.active.remove(place);
         let tx = short.tx();
         let _ = self.order.push(tx);
-        install(&mut self.rows, tx, short.into_notes());
+        install(
+            &mut self.store,
+            tx,
+            self.order.len() as u64,
+            short.into_writes(),
+        );
         Ok(Reply::Committed { epoch: self.epoch })
     }
 
     // The session's short is given up.
     fn abort(&mut self, session: Session) -> Reply
-        ensures { record { reply = result; core = self.new } ≡ abort self.old session (short_of self.old session) }
+        ensures { Aborts self.old session (short_of self.old session) result self.new }
     {
         match place_of(&self.active, session) {
             None => Reply::NoTx,
@@ -185,7 +197,7 @@ impl Core {
 
     // The next epoch, where there is one.
     fn advance(&mut self) -> Reply
-        ensures { record { reply = result; core = self.new } ≡ advance self.old }
+        ensures { Advances self.old result self.new }
     {
         if self.epoch == LAST_EPOCH {
             return Reply::LimitEpoch;
@@ -196,9 +208,9 @@ impl Core {
 
     // What a session asks.
     fn serve(&mut self, session: Session, verb: &Verb) -> Result<Reply, NoMemory>
-        ensures ok { IfOk result (λ reply. record { reply = reply; core = self.new } ≡ verb_outcome self.old session verb.now) }
+        ensures ok { IfOk result (λ reply. Serves self.old session verb.now reply self.new) }
         ensures ready { is_abort verb.now ≡ true → IsOk result }
-        ensures err { OnErr result (self.new ≡ self.old) }
+        ensures err { OnErr result (IsSame self.old self.new) }
     {
         match verb {
             Verb::Short => self.begin(session),
@@ -211,9 +223,9 @@ impl Core {
 
     // A command: its reply and what it leaves, by what the core keeps alone.
     fn apply(&mut self, command: &Command) -> Result<Reply, NoMemory>
-        ensures ok { IfOk result (λ reply. record { reply = reply; core = self.new } ≡ outcome self.old command.now) }
+        ensures ok { IfOk result (λ reply. Applies self.old command.now reply self.new) }
         ensures ready { takes_no_memory command.now ≡ true → IsOk result }
-        ensures err { OnErr result (self.new ≡ self.old) }
+        ensures err { OnErr result (IsSame self.old self.new) }
     {
         match command {
             Command::Ask(session, verb) => self.serve(*session, verb),
@@ -232,7 +244,7 @@ impl Core {
         let durable = base.epoch.min(LAST_EPOCH - 1);
         Ok(Core {
             alloc,
-            rows: base.rows.into_vec(),
+            store: load(alloc, base.rows)?,
             order: Vec::new(alloc),
             active: Vec::new(alloc),
             epoch: durable + 1,
@@ -243,7 +255,7 @@ impl Core {
 
     /// One command, which is not `flush`. The reply is the answer of the state that the base and the history lead to,
     /// and the core then stands for the history with this entry. What is not built yet is answered `later`.
-    /// The next epoch and an abort take no memory. After `NoMemory` the core is as before.
+    /// The next epoch and an abort take no memory. After `NoMemory` the core stands for what it stood for, and for nothing else.
     pub fn step(&mut self, command: &Command) -> Result<Reply, NoMemory>
         requires not_flush { command.now ≢ Flush }
         ensures reply { IfOk result (λ reply. (base : Base) (history : List Entry) → IsSound base → IsLegalWith built base history → StandsFor self.old base history
@@ -251,7 +263,8 @@ impl Core {
         ensures stands { IfOk result (λ reply. (base : Base) (history : List Entry) → IsSound base → IsLegalWith built base history → StandsFor self.old base history
             → StandsFor self.new base (history ++ record { line = Good command.now; reply = reply } ∷ [])) }
         ensures ready { takes_no_memory command.now ≡ true → IsOk result }
-        ensures kept { OnErr result (self.new ≡ self.old) }
+        ensures kept { OnErr result ((base : Base) (history : List Entry) → StandsFor self.old base history → StandsFor self.new base history) }
+        ensures kept_back { OnErr result ((base : Base) (history : List Entry) → StandsFor self.new base history → StandsFor self.old base history) }
     {
         self.apply(command)
     }
@@ -261,6 +274,14 @@ impl Core {
         ensures value { IfOk result (λ txs. (base : Base) (history : List Entry) → StandsFor self.now base history → txs.items ≡ order (state base history)) }
     {
         Ok(self.order.clone()?)
+    }
+
+    /// The store: its rows at the newest mark are the latest rows.
+    pub fn store(&self) -> &Store
+        ensures value { result.now ≡ self.now.store }
+        ensures rows { (base : Base) (history : List Entry) → StandsFor self.now base history → latest_rows result.now ≡ latest (state base history) }
+    {
+        &self.store
     }
 
     /// The current epoch.

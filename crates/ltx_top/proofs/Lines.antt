@@ -1,5 +1,5 @@
 -- Lines that the core does not see: what they are answered, and that it then stands for one entry more.
-use Rattle.std.proofs.Common.{◌≡◌, List, [], ◌∷◌, ◌++◌, refl, sym, ap, ◌∙◌, subst}
+use Rattle.std.proofs.Common.{◌≡◌, List, [], ◌∷◌, ◌++◌, refl, sym, ap, ◌∙◌}
 use Rattle.ltx_model.specs.declared.commands.Bad.{Bad}
 use Rattle.ltx_model.specs.declared.commands.Command.{Command}
 use Rattle.ltx_model.specs.declared.commands.Command.TheVariants as commands
@@ -7,13 +7,13 @@ use Rattle.ltx_model.specs.declared.commands.Line.{Line}
 use Rattle.ltx_model.specs.declared.commands.Line.TheVariants as lines
 use Rattle.ltx_model.specs.declared.replies.Entry.{Entry}
 use Rattle.ltx_model.specs.declared.replies.Reply.TheVariants as replies
-use Rattle.ltx_model.specs.States.{Base, State, first_state}
+use Rattle.ltx_model.specs.States.{Base, State}
 use Rattle.ltx_model.specs.Histories.{after, state}
 use Rattle.ltx_model.specs.Answers.{answer, staged}
-use Rattle.ltx_model.proofs.OneMore.{state-push}
 use Rattle.ltx_core.specs.Built.{built}
-use Rattle.ltx_core.specs.Notes.{CoreView}
-use Rattle.ltx_core.specs.Stands.{StandsFor, StandsForState}
+use Rattle.ltx_core.specs.Views.{CoreView}
+use Rattle.ltx_core.specs.Stands.{StandsFor}
+use Rattle.ltx_core.proofs.Stays.{quiet}
 
 bad_reply : (s : State) (cause : Bad) → staged built s (lines.Bad cause) ≡ replies.Bad cause
 unfolding answer
@@ -30,9 +30,6 @@ flush_leaves : (s : State) → after s (record { line = lines.Good commands.Flus
 unfolding after
 flush_leaves s = refl
 
-stands_still : (core : CoreView) (base : Base) (history : List Entry) (e : Entry) → after (state base history) e ≡ state base history → StandsFor core base history → StandsFor core base (history ++ e ∷ [])
-stands_still core base history e same stands = subst (λ s. StandsForState core s) (sym (state-push (first_state base) history e ∙ same)) stands
-
 -- a malformed line
 pub bad_answer : (line : Line) (cause : Bad) → line ≡ lines.Bad cause → (s : State) → replies.Bad cause ≡ staged built s line
 bad_answer line cause is s = sym (ap (staged built s) is ∙ bad_reply s cause)
@@ -40,7 +37,7 @@ bad_answer line cause is s = sym (ap (staged built s) is ∙ bad_reply s cause)
 pub bad_stands : (core : CoreView) (base : Base) (history : List Entry) (line : Line) (cause : Bad) → line ≡ lines.Bad cause → StandsFor core base history
     → StandsFor core base (history ++ record { line = line; reply = replies.Bad cause } ∷ [])
 bad_stands core base history line cause is stands =
-    stands_still core base history (record { line = line; reply = replies.Bad cause })
+    quiet core base history (record { line = line; reply = replies.Bad cause })
     ((λ i. after (state base history) (record { line = is i; reply = replies.Bad cause })) ∙ bad_leaves (state base history) cause) stands
 
 -- a flush, which is not built
@@ -50,5 +47,5 @@ flush_answer command is s = sym (ap (λ c. staged built s (lines.Good c)) is ∙
 pub flush_stands : (core : CoreView) (base : Base) (history : List Entry) (command : Command) → command ≡ commands.Flush → StandsFor core base history
     → StandsFor core base (history ++ record { line = lines.Good command; reply = replies.Later } ∷ [])
 flush_stands core base history command is stands =
-    stands_still core base history (record { line = lines.Good command; reply = replies.Later })
+    quiet core base history (record { line = lines.Good command; reply = replies.Later })
     ((λ i. after (state base history) (record { line = lines.Good (is i); reply = replies.Later })) ∙ flush_leaves (state base history)) stands

@@ -12,7 +12,7 @@ use Rattle.ltx_model.specs.Answers.{IsLegalWith, staged}
 use Rattle.ltx_outside.specs.Faults.{Rose}
 use Rattle.ltx_outside.proofs.Counts.{Rose-earlier, Rose-later}
 use Rattle.ltx_core.specs.Built.{built}
-use Rattle.ltx_core.specs.Notes.{CoreView}
+use Rattle.ltx_core.specs.Views.{CoreView}
 use Rattle.ltx_core.specs.Stands.{StandsFor}
 use Rattle.ltx_text.specs.Lines.{LinesState, Cuts, NoFeedAhead, feeds, fresh, to_go}
 use Rattle.ltx_text.proofs.LineRuns.{fewer_to_go}

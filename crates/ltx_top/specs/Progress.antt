@@ -5,7 +5,7 @@ use Rattle.ltx_model.specs.declared.commands.Line.{Line}
 use Rattle.ltx_model.specs.declared.replies.Entry.{Entry}
 use Rattle.ltx_model.specs.Answers.{IsLegalWith}
 use Rattle.ltx_core.specs.Built.{built}
-use Rattle.ltx_core.specs.Notes.{CoreView}
+use Rattle.ltx_core.specs.Views.{CoreView}
 use Rattle.ltx_core.specs.Stands.{StandsFor}
 use Rattle.ltx_text.specs.Lines.{LinesState, Cuts, fresh}
 use Rattle.ltx_top.specs.Transcripts.{empty_base, line_of_piece, history_text}

@@ -14,13 +14,14 @@ use ltx_model::commands::{Command, Line};
 use ltx_model::memory::NoMemory;
 use ltx_model::replies::Reply;
 
-/// Answers a command. `flush` is not built yet. After `NoMemory` the core is as before.
+/// Answers a command. `flush` is not built yet. After `NoMemory` the core stands for what it stood for, and for nothing else.
 fn answer_command(core: &mut Core, command: &Command) -> Result<Reply, NoMemory>
     ensures reply { IfOk result (λ reply. (base : Base) (history : List Entry) → IsSound base → IsLegalWith built base history → StandsFor core.old base history
         → reply ≡ staged built (state base history) (Good command.now)) }
     ensures stands { IfOk result (λ reply. (base : Base) (history : List Entry) → IsSound base → IsLegalWith built base history → StandsFor core.old base history
         → StandsFor core.new base (history ++ record { line = Good command.now; reply = reply } ∷ [])) }
-    ensures kept { OnErr result (core.new ≡ core.old) }
+    ensures kept { OnErr result ((base : Base) (history : List Entry) → StandsFor core.old base history → StandsFor core.new base history) }
+    ensures kept_back { OnErr result ((base : Base) (history : List Entry) → StandsFor core.new base history → StandsFor core.old base history) }
 {
     match command {
         Command::Flush => Ok(Reply::Later),
@@ -28,13 +29,15 @@ fn answer_command(core: &mut Core, command: &Command) -> Result<Reply, NoMemory>
     }
 }
 
-/// Answers a line. A malformed one is answered with its cause. After `NoMemory` the core is as before.
+/// Answers a line. A malformed one is answered with its cause. After `NoMemory` the core stands for what it stood for, and for
+/// nothing else.
 pub(crate) fn answer(core: &mut Core, line: &Line) -> Result<Reply, NoMemory>
     ensures reply { IfOk result (λ reply. (base : Base) (history : List Entry) → IsSound base → IsLegalWith built base history → StandsFor core.old base history
         → reply ≡ staged built (state base history) line.now) }
     ensures stands { IfOk result (λ reply. (base : Base) (history : List Entry) → IsSound base → IsLegalWith built base history → StandsFor core.old base history
         → StandsFor core.new base (history ++ record { line = line.now; reply = reply } ∷ [])) }
-    ensures kept { OnErr result (core.new ≡ core.old) }
+    ensures kept { OnErr result ((base : Base) (history : List Entry) → StandsFor core.old base history → StandsFor core.new base history) }
+    ensures kept_back { OnErr result ((base : Base) (history : List Entry) → StandsFor core.new base history → StandsFor core.old base history) }
 {
     match line {
         Line::Bad(cause) => Ok(Reply::Bad(*cause)),

@@ -1,7 +1,7 @@
 use Rattle.std.proofs.Common.{arith}
 use Rattle.std.proofs.lemmas.Grind.{common_steps}
 use Rattle.ltx_core.proofs.FirstPlace.{find_none}
-use Rattle.ltx_core.specs.Notes.{is_session}
+use Rattle.ltx_core.specs.Views.{is_session}
 use Rattle.ltx_core.proofs.step.place_of.Goals as goal
 
 pub returns-clause-none : goal.returns-clause-none

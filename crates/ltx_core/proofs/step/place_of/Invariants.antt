@@ -1,6 +1,6 @@
 use Rattle.std.proofs.Common.{◌≡◌, take, false}
 use Rattle.std.specs.List.{list_any}
-use Rattle.ltx_core.specs.Notes.{is_session}
+use Rattle.ltx_core.specs.Views.{is_session}
 use Rattle.ltx_core.proofs.step.place_of.Given as goal
 
 abbrev pub invariant-loop-place : goal.invariant-loop-place

@@ -1,5 +1,5 @@
 use Rattle.std.proofs.Common.{ap, ◌∙◌}
-use Rattle.ltx_core.specs.Notes.{CoreView}
+use Rattle.ltx_core.specs.Views.{CoreView}
 use Rattle.ltx_core.proofs.Standing.{has_tells}
 use Rattle.ltx_core.proofs.step.Core.has_tx.Goals as goal
 

@@ -1,8 +1,16 @@
-use Rattle.ltx_core.proofs.Standing.{step_reply, step_stands, if_ok}
+use Rattle.ltx_core.proofs.Outcomes.{if_ok, on_err_so}
+use Rattle.ltx_core.proofs.Standing.{step_reply, step_stands}
+use Rattle.ltx_core.proofs.Stays.{stands_same, stands_same_back}
 use Rattle.ltx_core.proofs.step.Core.step.Goals as goal
 
 pub returns-clause-reply : goal.returns-clause-reply
-returns-clause-reply c = if_ok _ _ (λ reply is base history sound legal. step_reply c.args.self.now c.apply.new.self c.args.command.now reply is base history) c.apply.result c.apply.ensures.ok
+returns-clause-reply c = if_ok _ _ (λ reply does base history sound legal stands. step_reply base history sound c.args.self.now stands c.args.command.now reply c.apply.new.self does) c.apply.result c.apply.ensures.ok
 
 pub returns-clause-stands : goal.returns-clause-stands
-returns-clause-stands c = if_ok _ _ (λ reply is base history sound legal. step_stands c.args.self.now c.apply.new.self c.args.command.now reply is base history) c.apply.result c.apply.ensures.ok
+returns-clause-stands c = if_ok _ _ (λ reply does base history sound legal stands. step_stands base history sound c.args.self.now stands c.args.command.now reply c.apply.new.self does) c.apply.result c.apply.ensures.ok
+
+pub returns-clause-kept : goal.returns-clause-kept
+returns-clause-kept c = on_err_so _ _ (λ same base history. stands_same c.args.self.now c.apply.new.self base history same) c.apply.result c.apply.ensures.err
+
+pub returns-clause-kept_back : goal.returns-clause-kept_back
+returns-clause-kept_back c = on_err_so _ _ (λ same base history. stands_same_back c.args.self.now c.apply.new.self base history same) c.apply.result c.apply.ensures.err

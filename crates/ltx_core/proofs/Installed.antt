@@ -1,0 +1,187 @@
+-- The writes of a commit in the store: those that are left while they are installed, and what holds once all are.
+use Rattle.std.proofs.Common.{◌≡◌, inl, inr, ℕ, zero, suc, ◌+◌, ◌-◌, ◌<◌, Bool, true, false, cond, List, [], ◌∷◌, ◌++◌, length, Option, Some, None, is_some, refl, sym, ap, ◌∙◌, subst, arith, append-nil, append_assoc}
+use Rattle.std.specs.Prelude.{slice_get}
+use Rattle.std.specs.List.{AllByRecursion}
+use Rattle.std.specs.Ordering.{is_eq}
+use Rattle.ltx_model.specs.declared.commands.Op.{Op}
+use Rattle.ltx_model.specs.declared.rows.StoredRow.{StoredRow}
+use Rattle.ltx_model.specs.declared.writes.Write.{Write}
+use Rattle.ltx_model.specs.Keys.{Cell, same_cell, AreAbove, IsRising}
+use Rattle.ltx_model.specs.StoredRows.{cell_of}
+use Rattle.ltx_model.specs.Operations.{Transaction, operations, cell_of_write, writes_key, writes_of}
+use Rattle.ltx_model.specs.Rows.{rows_after_all}
+use Rattle.ltx_lemmas.specs.Writes.{rows_after_put, rows_after_writes}
+use Rattle.ltx_lemmas.proofs.Lists.{all_map, all_push, some_same}
+use Rattle.ltx_lemmas.proofs.Cells.{same_cell_same, item_at-is}
+use Rattle.ltx_lemmas.proofs.Rising.{absent}
+use Rattle.ltx_lemmas.proofs.LastWrites.{last_writes_give}
+use Rattle.ltx_buffer.specs.Own.{write_at}
+use Rattle.ltx_buffer.proofs.Keys.{is_own}
+use Rattle.ltx_chain.specs.declared.chain.Version.{Version}
+use Rattle.ltx_chain.specs.Versions.{Versions, AreBelow, latest}
+use Rattle.ltx_chain.proofs.Seen.{latest-append}
+use Rattle.ltx_store.specs.Kept.{Kept, chain_at, items_of, room_of, installed, versions_at, room_at, latest_rows, rows_with, row_of_write, with_version, AreUpTo, HasSameVersions}
+use Rattle.ltx_store.proofs.Changes.{chain_installed, above_up_to, up_to_more, up_to_installed}
+use Rattle.ltx_core.specs.Events.{version_by, HasInstalled}
+use Rattle.ltx_core.specs.Stands.{HasMark, IsDeletion}
+
+-- Of these writes the last ones are left to install, of keys that are as they were: with them the store is what it is to be.
+pub record IsLeft (old now : List Kept) (writer mark : ℕ) (writes rest : List Write) : Type 0 where
+  pub rising : IsRising cell_of_write rest
+  pub room : AllByRecursion (λ w. 0 < room_at now (cell_of_write w)) rest
+  pub below : AllByRecursion (λ w. AreBelow mark (versions_at now (cell_of_write w))) rest
+  pub rows : rows_after_writes writer (latest_rows now) rest ≡ rows_after_writes writer (latest_rows old) writes
+  pub versions : (cell : Cell) → versions_at now cell ++ version_by writer mark (write_at rest cell) ≡ versions_at old cell ++ version_by writer mark (write_at writes cell)
+  pub marks : AreUpTo mark now
+
+-- at first all are left
+pub all_left : (newest mark : ℕ) (kept : List Kept) (writer : ℕ) (writes : List Write) → newest < mark → AreUpTo newest kept → IsRising cell_of_write writes
+    → AllByRecursion (λ w. 0 < room_at kept (cell_of_write w)) writes → IsLeft kept kept writer mark writes writes
+all_left newest mark kept writer writes less all rising room = record {
+  rising = rising;
+  room = room;
+  below = all_map (λ w. 0 < room_at kept (cell_of_write w)) (λ w. AreBelow mark (versions_at kept (cell_of_write w))) (λ w r. above_up_to newest mark kept (cell_of_write w) less all) writes room;
+  rows = refl;
+  versions = λ q. refl;
+  marks = up_to_more newest mark kept (omega arith) all;
+}
+
+-- one is installed
+module _ (writer mark : ℕ) (w : Write) (now new : List Kept) (is : new ≡ with_version writer mark w now) where
+  version : Version
+  version = record { writer = writer; mark = mark; put = w.put }
+
+  chain_here : (q : Cell) → same_cell (cell_of_write w) q ≡ true → chain_at new q ≡ Some (installed (chain_at now q) version)
+  unfolding version
+  chain_here q same =
+      ap (λ kept. chain_at kept q) is ∙ chain_installed writer mark w now q
+      ∙ rw same (ap (λ c. Some (installed (chain_at now c) version)) (same_cell_same (cell_of_write w) q same))
+
+  chain_apart : (q : Cell) → same_cell (cell_of_write w) q ≡ false → chain_at new q ≡ chain_at now q
+  chain_apart q apart = ap (λ kept. chain_at kept q) is ∙ chain_installed writer mark w now q ∙ rw apart refl
+
+  -- what holds of the keys of the writes that are left
+  still : (P : Option Versions → Type 0) (ws : List Write) → AreAbove cell_of_write (cell_of_write w) ws → AllByRecursion (λ v. P (chain_at now (cell_of_write v))) ws → AllByRecursion (λ v. P (chain_at new (cell_of_write v))) ws
+  still P [] above all = tt
+  still P (v ∷ vs) above all = (subst P (sym (chain_apart (cell_of_write v) (ap is_eq above.0))) all.0, still P vs above.1 all.1)
+
+  versions_step : (rest : List Write) (q : Cell) → AreAbove cell_of_write (cell_of_write w) rest
+      → versions_at new q ++ version_by writer mark (write_at rest q) ≡ versions_at now q ++ version_by writer mark (write_at (w ∷ rest) q)
+  unfolding version
+  versions_step rest q above = by_test (same_cell (cell_of_write w) q) refl where
+    none : same_cell (cell_of_write w) q ≡ true → write_at rest q ≡ None
+    none same = subst (λ c. write_at rest c ≡ None) (same_cell_same (cell_of_write w) q same) (absent cell_of_write (cell_of_write w) rest above)
+
+    by_test : (b : Bool) → same_cell (cell_of_write w) q ≡ b
+        → versions_at new q ++ version_by writer mark (write_at rest q) ≡ versions_at now q ++ version_by writer mark (cond b (Some w) (write_at rest q))
+    by_test true same =
+        ap (λ o. versions_at new q ++ version_by writer mark o) (none same) ∙ append-nil (versions_at new q) ∙ ap items_of (chain_here q same)
+    by_test false apart = ap (λ o. items_of o ++ version_by writer mark (write_at rest q)) (chain_apart q apart)
+
+row_of_put : (writer : ℕ) (rows : List StoredRow) (w : Write) (put : Option (List ℕ)) → w.put ≡ put → rows_with (cell_of_write w) (row_of_write writer w) rows ≡ rows_after_put writer rows (cell_of_write w) put
+row_of_put writer rows w None e = rw e refl
+row_of_put writer rows w (Some value) e = rw e refl
+
+pub one_installed : (old now new : List Kept) (writer mark : ℕ) (writes : List Write) (w : Write) (rest : List Write) → IsLeft old now writer mark writes (w ∷ rest)
+    → new ≡ with_version writer mark w now → latest_rows new ≡ rows_with (cell_of_write w) (row_of_write writer w) (latest_rows now) → IsLeft old new writer mark writes rest
+one_installed old now new writer mark writes w rest left is rows = record {
+  rising = left.rising.1;
+  room = still writer mark w now new is (λ o. 0 < room_of o) rest left.rising.0 left.room.1;
+  below = still writer mark w now new is (λ o. AreBelow mark (items_of o)) rest left.rising.0 left.below.1;
+  rows = ap (λ r. rows_after_writes writer r rest) (rows ∙ row_of_put writer (latest_rows now) w w.put refl) ∙ left.rows;
+  versions = λ q. versions_step writer mark w now new is rest q left.rising.0 ∙ left.versions q;
+  marks = subst (AreUpTo mark) (sym is) (up_to_installed mark writer mark w now (omega arith) left.marks);
+}
+
+-- places in a longer list
+got_front : {A : Type 0} (xs ys : List A) (k : ℕ) (x : A) → slice_get xs k ≡ Some x → slice_get (xs ++ ys) k ≡ Some x
+got_front [] ys k x e = cc
+got_front (z ∷ zs) ys zero x e = e
+got_front (z ∷ zs) ys (suc k) x e = got_front zs ys k x e
+
+got_last : {A : Type 0} (xs : List A) (x : A) → slice_get (xs ++ x ∷ []) (length xs) ≡ Some x
+got_last [] x = refl
+got_last (y ∷ ys) x = got_last ys x
+
+-- A mark stays one when there are more commits.
+pub mark_stays : (commits more : List ℕ) (v : Version) → HasMark commits v → HasMark (commits ++ more) v
+mark_stays commits more v (inl base) = inl base
+mark_stays commits more v (inr at) = inr (got_front commits more (v.mark - 1) v.writer at)
+
+-- With its writes a transaction's number stands last among the commits: marks are numbers of commits.
+pub marks_installed : (old new : List Kept) (commits : List ℕ) (writer mark : ℕ) (writes : List Write) → mark ≡ length commits + 1 → HasInstalled old new writer mark writes
+    → ((cell : Cell) → AllByRecursion (HasMark commits) (versions_at old cell)) → (cell : Cell) → AllByRecursion (HasMark (commits ++ writer ∷ [])) (versions_at new cell)
+marks_installed old new commits writer mark writes marked done before q =
+    subst (AllByRecursion (HasMark (commits ++ writer ∷ []))) (sym (done.versions q)) (by_write (write_at writes q)) where
+      stay : AllByRecursion (HasMark (commits ++ writer ∷ [])) (versions_at old q)
+      stay = all_map (HasMark commits) (HasMark (commits ++ writer ∷ [])) (mark_stays commits (writer ∷ [])) (versions_at old q) (before q)
+
+      place : length commits ≡ mark - 1
+      place = omega arith
+
+      by_write : (o : Option Write) → AllByRecursion (HasMark (commits ++ writer ∷ [])) (versions_at old q ++ version_by writer mark o)
+      by_write None = subst (AllByRecursion (HasMark (commits ++ writer ∷ []))) (sym (append-nil (versions_at old q))) stay
+      by_write (Some w) =
+          all_push (HasMark (commits ++ writer ∷ [])) (versions_at old q) (record { writer = writer; mark = mark; put = w.put }) stay
+          (inr (subst (λ k. slice_get (commits ++ writer ∷ []) k ≡ Some writer) place (got_last commits writer)))
+
+-- A deletion is still the last write of its key after a transaction that does not write it.
+deletion_stays : (ts : List Transaction) (t : Transaction) (cell : Cell) (writer : ℕ) → writes_key (operations t) cell ≡ false → IsDeletion ts cell writer → IsDeletion (ts ++ t ∷ []) cell writer
+deletion_stays ts t cell writer apart d = record {
+  front = d.front;
+  tx = d.tx;
+  back = d.back ++ t ∷ [];
+  parts = ap (λ l. l ++ t ∷ []) d.parts ∙ append_assoc d.front (d.tx ∷ d.back) (t ∷ []);
+  number = d.number;
+  deletes = d.deletes;
+  last = all_push (λ u. writes_key (operations u) cell ≡ false) d.back t d.last apart;
+}
+
+-- Each deletion at the newest mark is the last write of its key in the order, which has the transaction last.
+pub deletions_installed : (old new : List Kept) (ts : List Transaction) (t : Transaction) (writer mark : ℕ) (writes : List Write) → writes ≡ writes_of (operations t) → t.number ≡ writer
+    → HasInstalled old new writer mark writes
+    → ((cell : Cell) (v : Version) → latest (versions_at old cell) ≡ Some v → v.put ≡ None → IsDeletion ts cell v.writer)
+    → (cell : Cell) (v : Version) → latest (versions_at new cell) ≡ Some v → v.put ≡ None → IsDeletion (ts ++ t ∷ []) cell v.writer
+deletions_installed old new ts t writer mark writes own number done before q v last deletes = by_write (write_at writes q) refl where
+  own_at : write_at (writes_of (operations t)) q ≡ write_at writes q
+  own_at = ap (λ ws. write_at ws q) (sym own)
+
+  by_write : (o : Option Write) → write_at writes q ≡ o → IsDeletion (ts ++ t ∷ []) q v.writer
+  by_write None is =
+      let apart : writes_key (operations t) q ≡ false = sym (is_own (operations t) q) ∙ ap is_some (own_at ∙ is) in
+      let same : versions_at new q ≡ versions_at old q = done.versions q ∙ ap (λ o. versions_at old q ++ version_by writer mark o) is ∙ append-nil (versions_at old q) in
+      deletion_stays ts t q v.writer apart (before q v (sym (ap latest same) ∙ last) deletes)
+  by_write (Some w) is =
+      let made : Version = record { writer = writer; mark = mark; put = w.put } in
+      let newest : latest (versions_at new q) ≡ Some made = ap latest (done.versions q ∙ ap (λ o. versions_at old q ++ version_by writer mark o) is) ∙ latest-append (versions_at old q) made in
+      let this : made ≡ v = some_same (sym newest ∙ last) in
+      let none : w.put ≡ None = ap (λ u. u.put) this ∙ deletes in
+      let here : cell_of_write w ≡ q = item_at-is cell_of_write writes q w is in
+      let gone : w ≡ record { table = q.table; key = q.key; put = None } = λ i. record { table = (here i).table; key = (here i).key; put = none i } in
+      record {
+        front = ts;
+        tx = t;
+        back = [];
+        parts = refl;
+        number = number ∙ ap (λ u. u.writer) this;
+        deletes = own_at ∙ is ∙ ap Some gone;
+        last = tt;
+      }
+
+-- The latest rows are those after the transaction's operations.
+pub rows_installed : (old new : List Kept) (writer mark : ℕ) (writes : List Write) (ops : List Op) → writes ≡ writes_of ops → IsRising cell_of (latest_rows old) → HasInstalled old new writer mark writes
+    → latest_rows new ≡ rows_after_all writer (latest_rows old) ops
+rows_installed old new writer mark writes ops own rising done = done.rows ∙ ap (rows_after_writes writer (latest_rows old)) own ∙ last_writes_give writer (latest_rows old) ops rising
+
+-- A store with the same versions.
+pub same_store : (old new : List Kept) → HasSameVersions old new → ((cell : Cell) → versions_at old cell ≡ versions_at new cell) × (latest_rows old ≡ latest_rows new)
+same_store old new same = ((λ q. sym (same.versions q)), sym same.latest)
+
+pub marks_same : (old new : List Kept) (commits : List ℕ) → HasSameVersions old new → ((cell : Cell) → AllByRecursion (HasMark commits) (versions_at old cell))
+    → (cell : Cell) → AllByRecursion (HasMark commits) (versions_at new cell)
+marks_same old new commits same before q = subst (AllByRecursion (HasMark commits)) (sym (same.versions q)) (before q)
+
+pub deletions_same : (old new : List Kept) (ts : List Transaction) → HasSameVersions old new
+    → ((cell : Cell) (v : Version) → latest (versions_at old cell) ≡ Some v → v.put ≡ None → IsDeletion ts cell v.writer)
+    → (cell : Cell) (v : Version) → latest (versions_at new cell) ≡ Some v → v.put ≡ None → IsDeletion ts cell v.writer
+deletions_same old new ts same before q v last deletes = before q v (ap latest (sym (same.versions q)) ∙ last) deletes

@@ -1,0 +1,34 @@
+use Rattle.std.proofs.Common.{◌≡◌, ◌∙◌, ap, sym, rules, Some, None, true, false, option_copied}
+use Rattle.ltx_model.specs.declared.looked.Noted.{Noted}
+use Rattle.ltx_model.specs.declared.looked.Reach.TheVariants.{Point}
+use Rattle.ltx_short.specs.Notes.{noted}
+use Rattle.ltx_buffer.specs.Own.{write_at}
+use Rattle.ltx_core.specs.Views.{ShortView}
+use Rattle.ltx_core.specs.Seen.{answered}
+use Rattle.ltx_core.proofs.Gets.{own_got, seen_got}
+use Rattle.ltx_core.proofs.short.Short.get.Goals as goal
+
+pub returns-in-Some-clause-done : goal.returns-in-Some-clause-done
+returns-in-Some-clause-done c =
+    let note : Noted = record { table = c.args.table; reach = Point c.args.key.now None true; write = None } in
+    let has : write_at c.self.inside.own.writes (record { table = c.args.table; key = c.args.key.now }) ≡ Some c.in-Some.write.now = search rules in
+    let answer : c.in_ok-reply.reply ≡ answered c.in-Some.write.now.put = search rules in
+    let tx : c.note_get.new.self ≡ noted c.self.inside.tx note = search rules in
+    own_got c.args.store.now c.args.self.now _ c.args.table c.args.key.now c.in-Some.write.now c.in_ok-reply.reply
+    (ap (λ (s : ShortView). write_at s.own.writes (record { table = c.args.table; key = c.args.key.now })) (sym c.self.view_is) ∙ has)
+    answer
+    (ap (λ (s : ShortView). s.session) c.self.view_is)
+    (tx ∙ ap (λ (s : ShortView). noted s.tx note) c.self.view_is)
+    (ap (λ (s : ShortView). s.own.writes) c.self.view_is)
+
+pub returns-clause-done : goal.returns-clause-done
+returns-clause-done c =
+    let note : Noted = record { table = c.args.table; reach = Point c.args.key.now c.in_ok-look.look false; write = None } in
+    let has : write_at c.self.inside.own.writes (record { table = c.args.table; key = c.args.key.now }) ≡ None = search rules in
+    let tx : c.note_get-2.new.self ≡ noted c.self.inside.tx note = search rules in
+    seen_got c.args.store.now c.args.mark c.get_at-seen.ensures.in_order c.requires.newest c.args.self.now _ c.args.table c.args.key.now (option_copied c.get_at-seen.result) c.in_ok-look.look c.in_ok-reply-2.reply
+    (ap (λ (s : ShortView). write_at s.own.writes (record { table = c.args.table; key = c.args.key.now })) (sym c.self.view_is) ∙ has)
+    c.get_at-seen.ensures.version c.in_ok-reply-2.ensures c.in_ok-look.ensures
+    (ap (λ (s : ShortView). s.session) c.self.view_is)
+    (tx ∙ ap (λ (s : ShortView). noted s.tx note) c.self.view_is)
+    (ap (λ (s : ShortView). s.own.writes) c.self.view_is)
