@@ -1,3 +1,4 @@
 pub mod OneMore
 pub mod WorkedScripts
 pub mod TableSets
+pub mod Words
