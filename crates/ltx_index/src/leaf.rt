@@ -12,7 +12,7 @@ ghost use Rattle.ltx_index.specs.Places.{IsFoundAt, IsGapAt, IsStartAt};
 ghost use Rattle.ltx_index.specs.Leaves.{first_key};
 ghost use Rattle.ltx_index.specs.contracts.leaf.Leaf.{the_row};
 
-use ltx_model::bytes::Key;
+use ltx_model::bytes::{Key, compare_bytes};
 use ltx_model::memory::NoMemory;
 use std::alloc::Global;
 use std::cmp::Ordering;
@@ -179,7 +179,7 @@ fn start(keys: &[Key], from: &[u8], strict: bool) -> usize
 pub fn falls_short(key: &[u8], from: &[u8], strict: bool) -> bool
     ensures { result ≡ not (reaches from.now strict key.now) }
 {
-    match from.cmp(key) {
+    match compare_bytes(from, key) {
         Ordering::Less => false,
         Ordering::Equal => strict,
         Ordering::Greater => true,
