@@ -97,6 +97,19 @@ mod tests {
         ("1 commit", "changed 1 0 c none 2"),
     ];
 
+    const A_ROW_CAME_AND_WENT: &[(&str, &str)] = &[
+        ("1 short", "begun 1"),
+        ("1 get 0 x", "none"),
+        ("2 short", "begun 2"),
+        ("2 put 0 x v", "done"),
+        ("2 commit", "committed 1"),
+        ("3 short", "begun 3"),
+        ("3 del 0 x", "done"),
+        ("3 commit", "committed 1"),
+        ("1 put 0 y w", "done"),
+        ("1 commit", "committed 1"),
+    ];
+
     const OWN_WRITES_AND_ESCAPES: &[(&str, &str)] = &[
         ("1 short", "begun 1"),
         ("1 put 0 b 2", "done"),
@@ -121,6 +134,7 @@ mod tests {
                 "order 2\ndurable 0\n"
             )?
         );
+        assert!(rt; is_printed(alloc, A_ROW_CAME_AND_WENT, "order 2 3 1\ndurable 0\n")?);
         assert!(rt; is_printed(alloc, OWN_WRITES_AND_ESCAPES, "order 1\ndurable 0\n")?);
         Ok(())
     }
