@@ -13,7 +13,7 @@ ghost use Rattle.ltx_store.specs.Pairs.{IsRoomMade, IsLoaded};
 use crate::scanned::Scanned;
 use ltx_chain::chain::{Chain, Version};
 use ltx_index::index::Index;
-use ltx_model::bytes::{Bound, Key};
+use ltx_model::bytes::{Bound, Key, compare_bytes};
 use ltx_model::memory::NoMemory;
 use ltx_model::numbers::Tx;
 use ltx_model::rows::Row;
@@ -159,5 +159,5 @@ fn note(scanned: &mut Scanned, key: &Key, chain: &Chain, mark: u64) -> Result<()
 fn is_below(key: &Key, high: &Bound) -> bool
     ensures { result ≡ (is_empty high.now || is_lt (key_cmp key.now high.now)) }
 {
-    high.bytes().is_empty() || key.bytes().cmp(high.bytes()).is_lt()
+    high.bytes().is_empty() || compare_bytes(key.bytes(), high.bytes()).is_lt()
 }
