@@ -6,7 +6,7 @@ ghost use Rattle.ltx_model.specs.Operations.{cell_of_write};
 ghost use Rattle.ltx_buffer.specs.Own.{is_between};
 ghost use Rattle.ltx_buffer.specs.Places.{IsFoundAt, IsGapAt, IsSplitAt, end_of};
 
-use ltx_model::bytes::{Bound, Key};
+use ltx_model::bytes::{Bound, Key, compare_bytes};
 use ltx_model::commands::compare_cells;
 use ltx_model::memory::NoMemory;
 use ltx_model::numbers::Table;
@@ -32,7 +32,7 @@ fn count_below(writes: &[Write], table: u8, key: &[u8]) -> usize
             .table
             .number()
             .cmp(&table)
-            .then_with(|| write.key.bytes().cmp(key))
+            .then_with(|| compare_bytes(write.key.bytes(), key))
             .is_lt()
     })
 }
