@@ -64,7 +64,7 @@ mod tests {
     #[test]
     fn other_texts_are_none(rt: HostRuntime) -> Result<(), Fail> {
         let alloc = rt.alloc();
-        let others: [&[u8]; 16] = [
+        let others: [&[u8]; 19] = [
             b"",
             b"begun",
             b"begun 0",
@@ -75,9 +75,12 @@ mod tests {
             b"found %41",
             b"rows 2 a 1",
             b"rows 2 b 1 a 2",
+            b"rows 2 a 1 a 2",
+            b"changed 0 0 k none 2",
             b"changed 1 0 k 2 2",
             b"changed 1 0 k none none",
             b"late 1 0 0 k 2",
+            b"contradicts 1 0 0 k 2",
             b"preserved 64 1",
             b"notyet 4294967296",
             b"bad reply",
