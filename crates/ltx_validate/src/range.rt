@@ -10,7 +10,7 @@ ghost use Rattle.ltx_validate.specs.Differences.{IsOrdered, Tells};
 ghost use Rattle.ltx_validate.specs.Turns.{is_below, turn_of, NextRow};
 
 use crate::difference::{Difference, writer_of};
-use ltx_model::bytes::{Bound, Key};
+use ltx_model::bytes::{Bound, Key, compare_bytes};
 use ltx_model::latest::Latest;
 use ltx_model::memory::NoMemory;
 use ltx_model::numbers::{Table, Tx};
@@ -118,7 +118,7 @@ fn next_row<'l, L: Latest>(
 fn is_below(key: &Key, high: &Bound) -> bool
     ensures { result ≡ is_below high.now key.now }
 {
-    high.bytes().is_empty() || key.bytes().cmp(high.bytes()).is_lt()
+    high.bytes().is_empty() || compare_bytes(key.bytes(), high.bytes()).is_lt()
 }
 
 // The writers then and now differ, and the key is none of the own ones, which are asked last.
