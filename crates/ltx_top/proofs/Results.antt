@@ -157,11 +157,11 @@ module _ (before after : Option (List ℕ)) (hand : Hand) (text : List ℕ)
   closed_ran (Err stop) kept out = tt
 
   pub closed_stops : {T : Type 0} (r : Result T Stop) → IfErr r (λ stop. stop ≡ stops.Sink) → ((n : ℕ) × Appends before after (take n text))
-      → IfErr r (λ stop. (start : Devices) (left : Option (List ℕ)) → Progress start (record { left = left; written = before }) hand [] → Stops stop start.left left start.written after)
+      → IfErr r (λ stop. (start : Devices) (left : Option (List ℕ)) → hand.reader.held ≡ [] → IsAtEnd left → Progress start (record { left = left; written = before }) hand [] → Stops stop start.left left start.written after)
   closed_stops (Ok x) cause front = tt
-  closed_stops (Err stop) cause front = λ start left p.
+  closed_stops (Err stop) cause front = λ start left none end p.
       subst (λ (s : Stop). Stops s start.left left start.written after) (sym cause)
-      (ending_stopped start left before after hand text front.0 ends front.1 p, progress_within start (record { left = left; written = before }) hand [] p)
+      (ending_stopped start left before after hand text front.0 none end ends front.1 p, progress_within start (record { left = left; written = before }) hand [] p)
 
 -- the text in hand is given up
 pub halted_end : (start : Devices) (left before after : Option (List ℕ)) (rest : List ℕ) → ((n : ℕ) × Appends before after (take n rest)) → Halted start (record { left = left; written = before }) rest
@@ -177,8 +177,8 @@ closed (Err e) old new core txs durable put is lasts = tt
 
 -- the ending found no memory, and the text in hand is given up
 pub unclosed : (stop : Stop) → stop ≡ stops.NoMemory → (before after : Option (List ℕ)) (hand : Hand) (kept : List ℕ) → kept ≡ hand.text → ((n : ℕ) × Appends before after (take n kept))
-    → (start : Devices) (left : Option (List ℕ)) → Progress start (record { left = left; written = before }) hand [] → Stops stop start.left left start.written after
-unclosed stop is before after hand kept same front start left p =
+    → (start : Devices) (left : Option (List ℕ)) → hand.reader.held ≡ [] → IsAtEnd left → Progress start (record { left = left; written = before }) hand [] → Stops stop start.left left start.written after
+unclosed stop is before after hand kept same front start left none end p =
     subst (λ (s : Stop). Stops s start.left left start.written after) (sym is)
     (halted_end start left before after hand.text (front.0, subst (λ (t : List ℕ). Appends before after (take front.0 t)) same front.1) (halt start (record { left = left; written = before }) hand [] p))
 
@@ -198,10 +198,11 @@ module _ (Began : Devices → Type 0) (left before after : Option (List ℕ)) (h
       (subst (λ (b : Bool). Ran start.left left start.written after b) (sym same) (ran start left none end (on start p)), progress_within start (record { left = left; written = before }) hand [] (on start p))
   worked_ran (Err stop) bad same none end ran = tt
 
-  pub worked_stops : {T : Type 0} (r : Result T Stop) → IfErr r (λ stop. (start : Devices) (left : Option (List ℕ)) → Progress start (record { left = left; written = before }) hand [] → Stops stop start.left left start.written after)
+  pub worked_stops : {T : Type 0} (r : Result T Stop) → hand.reader.held ≡ [] → IsAtEnd left
+      → IfErr r (λ stop. (start : Devices) (left : Option (List ℕ)) → hand.reader.held ≡ [] → IsAtEnd left → Progress start (record { left = left; written = before }) hand [] → Stops stop start.left left start.written after)
       → IfErr r (λ stop. (start : Devices) → Began start → Stops stop start.left left start.written after)
-  worked_stops (Ok x) halts = tt
-  worked_stops (Err stop) halts = λ start p. halts start left (on start p)
+  worked_stops (Ok x) none end halts = tt
+  worked_stops (Err stop) none end halts = λ start p. halts start left none end (on start p)
 
 pub worked_rose : {T : Type 0} (r : Result T Stop) (s s' k l m : ℕ) → k ≤ l → IfErr r (λ stop. (x y : ℕ) → RoseAt stop x y l m) → IfErr r (λ stop. RoseAt stop s s' k m)
 worked_rose (Ok x) s s' k l m less rose = tt

@@ -313,35 +313,41 @@ ran start left before after hand text none end ends out p = record {
 
 stopped_at : (start now : Devices) (reader : LinesState) (given : List (Option (List ℕ))) (history : List Entry) (more : List Line) (front back : List ℕ)
     → Cuts (fresh most_of_script) reader start.left now.left given → map line_of_piece given ≡ map (λ e. e.line) history ++ more → IsLegalWith built empty_base history
-    → Appends start.written now.written front → front ++ back ≡ history_text history ++ ending_of (state empty_base history) → Stopped start.left start.written now.written
-stopped_at start now reader given history more front back cuts lines legal out whole = record {
+    → Appends start.written now.written front → front ++ back ≡ history_text history ++ ending_of (state empty_base history)
+    → (length (history_text history) < length front → IfSome start.left (λ bytes. map (λ e. e.line) history ≡ script_lines bytes)) → Stopped start.left start.written now.written
+stopped_at start now reader given history more front back cuts lines legal out parts whole = record {
   history = history;
   lines = first_lines reader start.left now.left given history more cuts lines;
   legal = legal;
   explained = explains history legal;
   most = length front;
-  printed = subst (Appends start.written now.written) (sym (front_text front back) ∙ ap (take (length front)) whole) out;
+  printed = subst (Appends start.written now.written) (sym (front_text front back) ∙ ap (take (length front)) parts) out;
+  whole = whole;
 }
 
 -- a front of the text with the ending was written
-pub ending_stopped : (start : Devices) (left before after : Option (List ℕ)) (hand : Hand) (text : List ℕ) (n : ℕ)
+pub ending_stopped : (start : Devices) (left before after : Option (List ℕ)) (hand : Hand) (text : List ℕ) (n : ℕ) → hand.reader.held ≡ [] → IsAtEnd left
     → ((history : List Entry) → StandsFor hand.core empty_base history → text ≡ hand.text ++ ending_of (state empty_base history)) → Appends before after (take n text)
     → Progress start (record { left = left; written = before }) hand [] → Stopped start.left start.written after
-ending_stopped start left before after hand text n ends out p =
+ending_stopped start left before after hand text n none end ends out p =
     stopped_at start (record { left = left; written = after }) hand.reader p.given p.history [] (p.written ++ take n text) (drop n text) p.cuts p.lines p.legal
     (Appends-trans start.written before after p.written (take n text) p.out out)
     (append_assoc p.written (take n text) (drop n text) ∙ ap (λ (t : List ℕ). p.written ++ t) (take-append-drop n text ∙ ends p.history p.stands)
     ∙ sym (append_assoc p.written hand.text (ending_of (state empty_base p.history))) ∙ ap (λ (t : List ℕ). t ++ ending_of (state empty_base p.history)) p.whole)
+    (λ past. all_lines hand.reader start.left left p.given p.history p.cuts (line_of_all p.history p.given p.lines) none end)
 
 -- a front of the rest was written, or nothing of it
 pub halted_stopped : (start : Devices) (left before after : Option (List ℕ)) (rest : List ℕ) (n : ℕ) → Appends before after (take n rest)
     → Halted start (record { left = left; written = before }) rest → Stopped start.left start.written after
 halted_stopped start left before after rest n out h =
     let ending = ending_of (state empty_base h.history) in
+    let front : List ℕ = h.written ++ take n rest in
+    let parts : front ++ drop n rest ≡ history_text h.history = append_assoc h.written (take n rest) (drop n rest) ∙ ap (λ (t : List ℕ). h.written ++ t) (take-append-drop n rest) ∙ h.whole in
     stopped_at start (record { left = left; written = after }) h.reader h.given h.history h.more (h.written ++ take n rest) (drop n rest ++ ending) h.cuts h.lines h.legal
     (Appends-trans start.written before after h.written (take n rest) h.out out)
     (append_assoc h.written (take n rest) (drop n rest ++ ending) ∙ ap (λ (t : List ℕ). h.written ++ t) (sym (append_assoc (take n rest) (drop n rest) ending) ∙ ap (λ (t : List ℕ). t ++ ending) (take-append-drop n rest))
     ∙ sym (append_assoc h.written rest ending) ∙ ap (λ (t : List ℕ). t ++ ending) h.whole)
+    (λ past. absurd (omega (arith, past, ap length parts, length-append front (drop n rest))))
 
 pub halted_stops : (start now : Devices) (rest : List ℕ) → Halted start now rest → Stopped start.left start.written now.written
 halted_stops start now rest h = halted_stopped start now.left now.written now.written rest 0 (Appends-nil now.written) h
@@ -354,6 +360,7 @@ nothing_stopped left written = record {
   explained = explains [] (legal-none built (first_state empty_base));
   most = 0;
   printed = Appends-nil written;
+  whole = λ past. absurd (omega (arith, past));
 } where
   none : (old : Option (List ℕ)) → IfSome old (λ bytes. [] ≡ take 0 (script_lines bytes))
   none None = tt

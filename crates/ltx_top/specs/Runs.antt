@@ -1,5 +1,5 @@
 -- What a run is worth: the history that it answered, and what it printed of it.
-use Rattle.std.specs.Prelude.{◌≡◌, ℕ, ◌-◌, ◌≤◌, min, Bool, true, false, List, ◌++◌, map, take, length, Option, Some, None, IfSome}
+use Rattle.std.specs.Prelude.{◌≡◌, ℕ, ◌-◌, ◌≤◌, ◌<◌, min, Bool, true, false, List, ◌++◌, map, take, length, Option, Some, None, IfSome}
 use Rattle.std.specs.List.{list_any}
 use Rattle.std.specs.Io.KnownBytes.{Appends, IsAtEnd}
 use Rattle.ltx_model.specs.declared.replies.Entry.{Entry}
@@ -42,7 +42,8 @@ pub record Ran (left_old left_new written_old written_new : Option (List ℕ)) (
   pub explained : IsExplained empty_base history (order (state empty_base history))
   pub malformed : has_bad history ≡ bad
 
--- A run that stopped early. Its history is a legal one of the first lines, and a front of its text and ending was written.
+-- A run that stopped early. Its history is a legal one of the first lines, and a front of its text and ending was written; of the
+-- ending something only where every line was answered.
 pub record Stopped (left_old written_old written_new : Option (List ℕ)) : Type 0 where
   pub history : List Entry
   pub lines : IfSome left_old (λ bytes. map (λ e. e.line) history ≡ take (length history) (script_lines bytes))
@@ -50,6 +51,7 @@ pub record Stopped (left_old written_old written_new : Option (List ℕ)) : Type
   pub explained : IsExplained empty_base history (order (state empty_base history))
   pub most : ℕ
   pub printed : Appends written_old written_new (take most (history_text history ++ ending_of (state empty_base history)))
+  pub whole : length (history_text history) < most → IfSome left_old (λ bytes. map (λ e. e.line) history ≡ script_lines bytes)
 
 -- A run that its source stopped. Each entry was written whole, and each line has one whose line feed was taken and stands among
 -- the bytes that a script may have.

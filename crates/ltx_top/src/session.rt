@@ -175,7 +175,7 @@ impl Session {
         ensures ran { OnOk result ((start : Devices) (left : Option (List ℕ)) → self.old.lines.held ≡ [] → IsAtEnd left → Progress start (record { left = left; written = K.written sink.old }) (hand_of self.old) []
             → Ran start.left left start.written (K.written sink.new) self.old.malformed) }
         ensures same { self.new.malformed ≡ self.old.malformed }
-        ensures stops { IfErr result (λ stop. (start : Devices) (left : Option (List ℕ)) → Progress start (record { left = left; written = K.written sink.old }) (hand_of self.old) []
+        ensures stops { IfErr result (λ stop. (start : Devices) (left : Option (List ℕ)) → self.old.lines.held ≡ [] → IsAtEnd left → Progress start (record { left = left; written = K.written sink.old }) (hand_of self.old) []
             → Stops stop start.left left start.written (K.written sink.new)) }
         ensures rose { IfErr result (λ stop. (s s' : ℕ) → RoseAt stop s s' (K.faults sink.old) (K.faults sink.new)) }
         ensures counted { K.faults sink.old ≤ K.faults sink.new }

@@ -15,7 +15,7 @@ pub returns-in-Ok-clause-stops : goal.returns-in-Ok-clause-stops
 returns-in-Ok-clause-stops g c =
     worked_stops (λ (start : Devices). Progress start (record { left = g.S.Source.left c.args.source.now; written = g.K.Sink.written c.args.sink.now }) (hand_of c.args.self.now) [])
     (g.S.Source.left c.answer_all.new.source) (g.K.Sink.written c.answer_all.new.sink) (g.K.Sink.written c.finish.new.sink) (hand_of c.answer_all.new.self) c.in-Ok.ensures.on
-    c.finish.result c.finish.ensures.stops
+    c.finish.result c.in-Ok.ensures.ended.0 c.in-Ok.ensures.ended.1 c.finish.ensures.stops
 
 pub returns-in-Ok-clause-rose : goal.returns-in-Ok-clause-rose
 returns-in-Ok-clause-rose g c =
