@@ -125,8 +125,8 @@ module _ (base : Base) (history : List Entry) (old : CoreView) (at : StandsAt ol
             ∙ (λ i. rows_after_all (opened.number i) (at.rows i) (operations t)) ∙ sym (ap (run s.base) serial_is ∙ run-push s.base (serial s.agenda) t);
         deletions = subst (λ ts. (cell : Cell) (v : Version) → versions.latest (versions_at new.store cell) ≡ Some v → v.put ≡ None → IsDeletion ts cell v.writer) (sym serial_is)
             (deletions_installed old.store new.store (serial s.agenda) t a.tx.tx (length old.order + 1) a.own.writes own_is (sym opened.number) done.installed at.deletions);
-        marks = subst (λ ns. (cell : Cell) → AllByRecursion (HasMark ns) (versions_at new.store cell)) (sym numbers_is)
-            (marks_installed old.store new.store (map (λ u. u.number) (commits_of s.moves)) a.tx.tx (length old.order + 1) a.own.writes mark_is done.installed at.marks);
+        marks = subst (λ ns. (cell : Cell) → AllByRecursion (HasMark base.rows ns cell) (versions_at new.store cell)) (sym numbers_is)
+            (marks_installed base.rows old.store new.store (map (λ u. u.number) (commits_of s.moves)) a.tx.tx (length old.order + 1) a.own.writes mark_is done.installed at.marks);
         commits = ap length moves_is ∙ length-append (commits_of s.moves) (t ∷ []) ∙ ap (λ n. n + 1) at.commits ∙ sym (ap length done.order ∙ length-append old.order (a.tx.tx ∷ []));
         active = subst (AreOpen base history (without_first (is_of session) s.active)) (sym shorter) (opens_without base history session s.active old.active at.active);
       }

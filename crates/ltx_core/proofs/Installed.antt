@@ -20,7 +20,7 @@ use Rattle.ltx_buffer.proofs.Keys.{is_own}
 use Rattle.ltx_chain.specs.declared.chain.Version.{Version}
 use Rattle.ltx_chain.specs.Versions.{Versions, AreBelow, latest}
 use Rattle.ltx_chain.proofs.Seen.{latest-append}
-use Rattle.ltx_store.specs.Kept.{Kept, chain_at, items_of, room_of, installed, versions_at, room_at, latest_rows, rows_with, row_of_write, with_version, AreUpTo, HasSameVersions}
+use Rattle.ltx_store.specs.Kept.{Kept, chain_at, items_of, room_of, installed, versions_at, room_at, latest_rows, rows_with, row_of_write, with_version, AreUpTo}
 use Rattle.ltx_store.proofs.Changes.{chain_installed, above_up_to, up_to_more, up_to_installed}
 use Rattle.ltx_core.specs.Events.{version_by, HasInstalled}
 use Rattle.ltx_core.specs.Stands.{HasMark, IsDeletion}
@@ -104,26 +104,29 @@ got_last [] x = refl
 got_last (y ∷ ys) x = got_last ys x
 
 -- A mark stays one when there are more commits.
-pub mark_stays : (commits more : List ℕ) (v : Version) → HasMark commits v → HasMark (commits ++ more) v
-mark_stays commits more v (inl base) = inl base
-mark_stays commits more v (inr at) = inr (got_front commits more (v.mark - 1) v.writer at)
+pub mark_stays : (rows : List StoredRow) (commits more : List ℕ) (cell : Cell) (v : Version) → HasMark rows commits cell v → HasMark rows (commits ++ more) cell v
+mark_stays rows commits more cell v (inl base) = inl base
+mark_stays rows commits more cell v (inr at) = inr (at.0, got_front commits more (v.mark - 1) v.writer at.1)
 
 -- With its writes a transaction's number stands last among the commits: marks are numbers of commits.
-pub marks_installed : (old new : List Kept) (commits : List ℕ) (writer mark : ℕ) (writes : List Write) → mark ≡ length commits + 1 → HasInstalled old new writer mark writes
-    → ((cell : Cell) → AllByRecursion (HasMark commits) (versions_at old cell)) → (cell : Cell) → AllByRecursion (HasMark (commits ++ writer ∷ [])) (versions_at new cell)
-marks_installed old new commits writer mark writes marked done before q =
-    subst (AllByRecursion (HasMark (commits ++ writer ∷ []))) (sym (done.versions q)) (by_write (write_at writes q)) where
-      stay : AllByRecursion (HasMark (commits ++ writer ∷ [])) (versions_at old q)
-      stay = all_map (HasMark commits) (HasMark (commits ++ writer ∷ [])) (mark_stays commits (writer ∷ [])) (versions_at old q) (before q)
+pub marks_installed : (rows : List StoredRow) (old new : List Kept) (commits : List ℕ) (writer mark : ℕ) (writes : List Write) → mark ≡ length commits + 1 → HasInstalled old new writer mark writes
+    → ((cell : Cell) → AllByRecursion (HasMark rows commits cell) (versions_at old cell)) → (cell : Cell) → AllByRecursion (HasMark rows (commits ++ writer ∷ []) cell) (versions_at new cell)
+marks_installed rows old new commits writer mark writes marked done before q =
+    subst (AllByRecursion (HasMark rows (commits ++ writer ∷ []) q)) (sym (done.versions q)) (by_write (write_at writes q)) where
+      stay : AllByRecursion (HasMark rows (commits ++ writer ∷ []) q) (versions_at old q)
+      stay = all_map (HasMark rows commits q) (HasMark rows (commits ++ writer ∷ []) q) (mark_stays rows commits (writer ∷ []) q) (versions_at old q) (before q)
+
+      above : 0 < mark
+      above = omega arith
 
       place : length commits ≡ mark - 1
       place = omega arith
 
-      by_write : (o : Option Write) → AllByRecursion (HasMark (commits ++ writer ∷ [])) (versions_at old q ++ version_by writer mark o)
-      by_write None = subst (AllByRecursion (HasMark (commits ++ writer ∷ []))) (sym (append-nil (versions_at old q))) stay
+      by_write : (o : Option Write) → AllByRecursion (HasMark rows (commits ++ writer ∷ []) q) (versions_at old q ++ version_by writer mark o)
+      by_write None = subst (AllByRecursion (HasMark rows (commits ++ writer ∷ []) q)) (sym (append-nil (versions_at old q))) stay
       by_write (Some w) =
-          all_push (HasMark (commits ++ writer ∷ [])) (versions_at old q) (record { writer = writer; mark = mark; put = w.put }) stay
-          (inr (subst (λ k. slice_get (commits ++ writer ∷ []) k ≡ Some writer) place (got_last commits writer)))
+          all_push (HasMark rows (commits ++ writer ∷ []) q) (versions_at old q) (record { writer = writer; mark = mark; put = w.put }) stay
+          (inr (above, subst (λ k. slice_get (commits ++ writer ∷ []) k ≡ Some writer) place (got_last commits writer)))
 
 -- A deletion is still the last write of its key after a transaction that does not write it.
 deletion_stays : (ts : List Transaction) (t : Transaction) (cell : Cell) (writer : ℕ) → writes_key (operations t) cell ≡ false → IsDeletion ts cell writer → IsDeletion (ts ++ t ∷ []) cell writer
@@ -172,16 +175,3 @@ deletions_installed old new ts t writer mark writes own number done before q v l
 pub rows_installed : (old new : List Kept) (writer mark : ℕ) (writes : List Write) (ops : List Op) → writes ≡ writes_of ops → IsRising cell_of (latest_rows old) → HasInstalled old new writer mark writes
     → latest_rows new ≡ rows_after_all writer (latest_rows old) ops
 rows_installed old new writer mark writes ops own rising done = done.rows ∙ ap (rows_after_writes writer (latest_rows old)) own ∙ last_writes_give writer (latest_rows old) ops rising
-
--- A store with the same versions.
-pub same_store : (old new : List Kept) → HasSameVersions old new → ((cell : Cell) → versions_at old cell ≡ versions_at new cell) × (latest_rows old ≡ latest_rows new)
-same_store old new same = ((λ q. sym (same.versions q)), sym same.latest)
-
-pub marks_same : (old new : List Kept) (commits : List ℕ) → HasSameVersions old new → ((cell : Cell) → AllByRecursion (HasMark commits) (versions_at old cell))
-    → (cell : Cell) → AllByRecursion (HasMark commits) (versions_at new cell)
-marks_same old new commits same before q = subst (AllByRecursion (HasMark commits)) (sym (same.versions q)) (before q)
-
-pub deletions_same : (old new : List Kept) (ts : List Transaction) → HasSameVersions old new
-    → ((cell : Cell) (v : Version) → latest (versions_at old cell) ≡ Some v → v.put ≡ None → IsDeletion ts cell v.writer)
-    → (cell : Cell) (v : Version) → latest (versions_at new cell) ≡ Some v → v.put ≡ None → IsDeletion ts cell v.writer
-deletions_same old new ts same before q v last deletes = before q v (ap latest (sym (same.versions q)) ∙ last) deletes

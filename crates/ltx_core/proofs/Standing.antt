@@ -1,5 +1,5 @@
 -- Each command of a core that stands for a history: the reply is the state's, and the core then stands for the history with the entry.
-use Rattle.std.proofs.Common.{◌≡◌, ◌≢◌, inl, ℕ, ◌+◌, Bool, true, false, cond, ◌==◌, List, [], ◌∷◌, ◌++◌, length, set, Option, Some, None, is_some, IfSome, IfNone, refl, sym, ap, ◌∙◌, subst, nat_le}
+use Rattle.std.proofs.Common.{◌≡◌, inl, ℕ, ◌+◌, Bool, true, false, cond, ◌==◌, List, [], ◌∷◌, ◌++◌, length, set, Option, Some, None, is_some, IfSome, IfNone, refl, sym, ap, ◌∙◌, subst, nat_le}
 use Rattle.std.specs.List.{find, AllByRecursion}
 use Rattle.std.proofs.lemmas.Bool.{leb-true, leb-false}
 use Rattle.ltx_model.specs.declared.commands.Op.{Op}
@@ -21,20 +21,19 @@ use Rattle.ltx_model.specs.Histories.{to_active, begun, ended, advanced, reply_c
 use Rattle.ltx_model.specs.Answers.{begin_short, short_reply, command_reply, answer, staged}
 use Rattle.ltx_model.specs.Answers.{commit as state_commit, abort as state_abort, advance as state_advance}
 use Rattle.ltx_model.proofs.OneMore.{run-none, state-none}
-use Rattle.ltx_lemmas.proofs.Lists.{all_map, without_nothing}
-use Rattle.ltx_chain.specs.declared.chain.Version.{Version}
-use Rattle.ltx_chain.specs.Versions as versions
+use Rattle.ltx_lemmas.proofs.Lists.{all_map, none_some, without_nothing}
 use Rattle.ltx_store.specs.Kept.{versions_at, latest_rows}
 use Rattle.ltx_core.specs.Built.{built}
 use Rattle.ltx_core.specs.Views.{ShortView, CoreView, is_session}
 use Rattle.ltx_core.specs.Places.{IsFirst}
 use Rattle.ltx_core.specs.Events.{short_of, with_active}
 use Rattle.ltx_core.specs.Outcomes.{Leaves, BeginsUnless, Begins, IsAnswered, Operates, Aborts, AdvancesUnless, in_epoch, Serves, Applies}
-use Rattle.ltx_core.specs.Stands.{HasMark, AreTold, IsOpen, AreOpen, StandsFor}
+use Rattle.ltx_core.specs.Stands.{IsOfBase, HasMark, AreTold, IsOpen, AreOpen, StandsFor}
 use Rattle.ltx_core.proofs.FirstPlace.{at_place, find_first, change_first_at}
 use Rattle.ltx_core.proofs.Opens.{FoundBoth, opens_find, opens_push, opens_shorts, advanced_shorts, with_epoch}
 use Rattle.ltx_core.proofs.Stays.{StandsAt, stands_at, stands_there, IsStep}
 use Rattle.ltx_core.proofs.Operated.{operated_none, operated_full, operated_at}
+use Rattle.ltx_core.proofs.Loaded.{all_latest}
 use Rattle.ltx_core.proofs.Bases.{latest_rising}
 use Rattle.ltx_core.proofs.Moments.{longer_at, Leads, step_leads}
 use Rattle.ltx_core.proofs.Committed.{ended_stands, commit_step}
@@ -211,17 +210,16 @@ module _ (base : Base) (history : List Entry) (sound : IsSound base) (old : Core
   step_stands command reply new does = (command_step command reply new does).stands
 
 -- a new core
-pub new_stands : (base : Base) (core : CoreView) → latest_rows core.store ≡ base.rows → ((cell : Cell) → AllByRecursion (λ v. v.mark ≡ 0) (versions_at core.store cell))
-    → ((cell : Cell) (v : Version) → versions.latest (versions_at core.store cell) ≡ Some v → v.put ≢ None)
+pub new_stands : (base : Base) (core : CoreView) → latest_rows core.store ≡ base.rows → ((cell : Cell) → AllByRecursion (IsOfBase base.rows cell) (versions_at core.store cell))
     → core.order ≡ [] → core.active ≡ [] → core.epoch ≡ base.durable + 1 → core.durable ≡ base.durable → core.last ≡ base.last → StandsFor core base []
-new_stands base core rows firsts puts order active epoch durable last = stands_there core base [] (first_state base) (state-none (first_state base)) (record {
+new_stands base core rows firsts order active epoch durable last = stands_there core base [] (first_state base) (state-none (first_state base)) (record {
   epoch = epoch;
   durable = durable;
   last = last;
   order = order;
   rows = rows ∙ sym (run-none base.rows);
-  deletions = λ cell v is deletes. absurd (puts cell v is deletes);
-  marks = λ cell. all_map (λ v. v.mark ≡ 0) (HasMark []) (λ v first. inl first) (versions_at core.store cell) (firsts cell);
+  deletions = λ cell v is deletes. absurd (none_some (sym deletes ∙ (all_latest (IsOfBase base.rows cell) (versions_at core.store cell) v (firsts cell) is).puts));
+  marks = λ cell. all_map (IsOfBase base.rows cell) (HasMark base.rows [] cell) (λ v first. inl first) (versions_at core.store cell) (firsts cell);
   commits = ap length (sym order);
   active = subst (AreOpen base [] []) (sym active) tt;
 })

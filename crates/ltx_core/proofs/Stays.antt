@@ -27,7 +27,7 @@ pub record StandsAt (core : CoreView) (base : Base) (history : List Entry) (s : 
   pub order : core.order ≡ order s
   pub rows : latest_rows core.store ≡ latest s
   pub deletions : (cell : Cell) (v : Version) → versions.latest (versions_at core.store cell) ≡ Some v → v.put ≡ None → IsDeletion (serial s.agenda) cell v.writer
-  pub marks : (cell : Cell) → AllByRecursion (HasMark (map (λ t. t.number) (commits_of s.moves))) (versions_at core.store cell)
+  pub marks : (cell : Cell) → AllByRecursion (HasMark base.rows (map (λ t. t.number) (commits_of s.moves)) cell) (versions_at core.store cell)
   pub commits : length (commits_of s.moves) ≡ length core.order
   pub active : AreOpen base history s.active core.active
 
@@ -97,7 +97,7 @@ kept_stands old new base history same stands = record {
   order = same.order ∙ stands.order;
   rows = same.rows ∙ stands.rows;
   deletions = λ cell v is deletes. stands.deletions cell v (ap versions.latest (sym (same.versions cell)) ∙ is) deletes;
-  marks = λ cell. subst (AllByRecursion (HasMark (map (λ t. t.number) (commits_of (state base history).moves)))) (sym (same.versions cell)) (stands.marks cell);
+  marks = λ cell. subst (AllByRecursion (HasMark base.rows (map (λ t. t.number) (commits_of (state base history).moves)) cell)) (sym (same.versions cell)) (stands.marks cell);
   commits = stands.commits ∙ ap length (sym same.order);
   active = opens_same base history (state base history).active old.active new.active same.active stands.active;
 }

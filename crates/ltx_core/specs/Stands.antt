@@ -1,12 +1,12 @@
 -- A core stands for a base and a history.
-use Rattle.std.specs.Prelude.{◌≡◌, ◌⊎◌, ℕ, ◌-◌, true, false, List, [], ◌∷◌, ◌++◌, map, length, slice_get, Some, None}
+use Rattle.std.specs.Prelude.{◌≡◌, ◌⊎◌, ℕ, ◌<◌, ◌-◌, true, false, List, [], ◌∷◌, ◌++◌, map, length, slice_get, Some, None}
 use Rattle.std.specs.List.{AllByRecursion}
 use Rattle.ltx_model.specs.declared.looked.Noted.{Noted}
 use Rattle.ltx_model.specs.declared.replies.Entry.{Entry}
 use Rattle.ltx_model.specs.declared.rows.StoredRow.{StoredRow}
 use Rattle.ltx_model.specs.declared.writes.Look.{Look}
 use Rattle.ltx_model.specs.Keys.{Cell, IsRising}
-use Rattle.ltx_model.specs.StoredRows.{cell_of}
+use Rattle.ltx_model.specs.StoredRows.{cell_of, row_at}
 use Rattle.ltx_model.specs.Operations.{Transaction, operations, writes_key, writes_of}
 use Rattle.ltx_model.specs.Agenda.{serial, commits_of}
 use Rattle.ltx_model.specs.Notes.{AreNotes}
@@ -62,9 +62,16 @@ AreOpen base history [] [] = Unit {0}
 AreOpen base history (o ∷ os) (a ∷ as') = IsOpen base history o a × AreOpen base history os as'
 AreOpen base history os as' = ⊥
 
--- the mark of a version is the number of commits up to and with its writer's, and 0 where it is a row of the base
-abbrev pub HasMark : List ℕ → Version → Type 0
-HasMark commits v = (v.mark ≡ 0) ⊎ (slice_get commits (v.mark - 1) ≡ Some v.writer)
+-- The version is the base's row of its key.
+pub record IsOfBase (rows : List StoredRow) (cell : Cell) (v : Version) : Type 0 where
+  pub mark : v.mark ≡ 0
+  pub value : List ℕ
+  pub puts : v.put ≡ Some value
+  pub row : row_at rows cell ≡ Some (record { table = cell.table; key = cell.key; value = value; writer = v.writer })
+
+-- the mark of a version is the number of commits up to and with its writer's, and 0 exactly where it is a row of the base
+abbrev pub HasMark : List StoredRow → List ℕ → Cell → Version → Type 0
+HasMark rows commits cell v = IsOfBase rows cell v ⊎ ((0 < v.mark) × (slice_get commits (v.mark - 1) ≡ Some v.writer))
 
 -- The core is where the history leads from the base.
 pub record StandsFor (core : CoreView) (base : Base) (history : List Entry) : Type 0 where
@@ -78,7 +85,7 @@ pub record StandsFor (core : CoreView) (base : Base) (history : List Entry) : Ty
   -- each deletion at the newest mark is the last write of its key in the order
   pub deletions : (cell : Cell) (v : Version) → versions.latest (versions_at core.store cell) ≡ Some v → v.put ≡ None → IsDeletion (serial (state base history).agenda) cell v.writer
   -- marks are numbers of commits, in time
-  pub marks : (cell : Cell) → AllByRecursion (HasMark (map (λ t. t.number) (commits_of (state base history).moves))) (versions_at core.store cell)
+  pub marks : (cell : Cell) → AllByRecursion (HasMark base.rows (map (λ t. t.number) (commits_of (state base history).moves)) cell) (versions_at core.store cell)
   pub commits : length (commits_of (state base history).moves) ≡ length core.order
   -- the open transactions, each with its notes and own writes
   pub active : AreOpen base history (state base history).active core.active

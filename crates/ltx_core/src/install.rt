@@ -1,13 +1,12 @@
 //! The store of a core: filled with the rows of a base, and with the writes of each commit.
 
-ghost use Rattle.std.specs.Prelude.{◌≡◌, ◌≢◌, ◌<◌, ℕ, IfOk, Some, None};
+ghost use Rattle.std.specs.Prelude.{◌≡◌, ◌<◌, ℕ, IfOk};
 ghost use Rattle.std.specs.List.{AllByRecursion};
 ghost use Rattle.ltx_model.specs.Keys.{Cell, IsRising};
 ghost use Rattle.ltx_model.specs.Operations.{cell_of_write};
-ghost use Rattle.ltx_chain.specs.declared.chain.Version.{Version};
-ghost use Rattle.ltx_chain.specs.Versions.{latest};
 ghost use Rattle.ltx_store.specs.Kept.{versions_at, room_at, latest_rows, AreUpTo};
 ghost use Rattle.ltx_core.specs.Events.{HasInstalled};
+ghost use Rattle.ltx_core.specs.Stands.{IsOfBase};
 
 use ltx_model::memory::NoMemory;
 use ltx_model::numbers::Tx;
@@ -33,8 +32,7 @@ pub(crate) fn install(store: &mut Store, writer: Tx, mark: u64, writes: Vec<Writ
 pub(crate) fn load(alloc: Global, rows: StoredList) -> Result<Store, NoMemory>
     ensures rows { IfOk result (λ store. latest_rows store ≡ rows) }
     ensures marks { IfOk result (λ store. AreUpTo 0 store) }
-    ensures versions { IfOk result (λ store. (cell : Cell) → AllByRecursion (λ v. v.mark ≡ 0) (versions_at store cell)) }
-    ensures puts { IfOk result (λ store. (cell : Cell) (v : Version) → latest (versions_at store cell) ≡ Some v → v.put ≢ None) }
+    ensures versions { IfOk result (λ store. (cell : Cell) → AllByRecursion (IsOfBase rows cell) (versions_at store cell)) }
 {
     let mut store = Store::new(alloc)?;
     for row in rows.into_vec() {

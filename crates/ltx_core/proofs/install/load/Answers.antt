@@ -1,5 +1,5 @@
 use Rattle.std.proofs.Common.{◌≡◌, ◌∷◌, subst, rules}
-use Rattle.ltx_core.proofs.Loaded.{IsLoading, one_loaded, marks_loaded, puts_loaded}
+use Rattle.ltx_core.proofs.Loaded.{IsLoading, one_loaded}
 use Rattle.ltx_core.proofs.install.load.Goals as goal
 
 pub loop-row-preserved : goal.loop-row-preserved
@@ -9,7 +9,4 @@ loop-row-preserved c =
     (subst (IsLoading c.loop-row.store c.args.rows) left c.loop-row.invariant) c.in_ok-load.ensures.loaded
 
 pub returns-clause-versions : goal.returns-clause-versions
-returns-clause-versions c = marks_loaded c.loop-row.store c.args.rows c.loop-row.row-iterator.rest.items c.loop-row.invariant
-
-pub returns-clause-puts : goal.returns-clause-puts
-returns-clause-puts c = puts_loaded c.loop-row.store c.args.rows c.loop-row.row-iterator.rest.items c.loop-row.invariant
+returns-clause-versions c = c.loop-row.invariant.firsts

@@ -8,5 +8,5 @@ returns c = record {
   stands = λ gate sound.
       let durable : c.min-durable.result ≡ c.args.base.epoch = omega (arith, c.min-durable.ensures, sound.durable) in
       let last : c.min.result ≡ c.args.base.last = omega (arith, c.min.ensures, sound.last) in
-      new_stands (base_of c.args.base gate) _ c.in_ok-load.ensures.rows c.in_ok-load.ensures.versions c.in_ok-load.ensures.puts c.new.ensures.items c.new-2.ensures.items (ap (λ n. n + 1) durable) durable last;
+      new_stands (base_of c.args.base gate) _ c.in_ok-load.ensures.rows c.in_ok-load.ensures.versions c.new.ensures.items c.new-2.ensures.items (ap (λ n. n + 1) durable) durable last;
 }
