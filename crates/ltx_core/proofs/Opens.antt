@@ -5,8 +5,7 @@ use Rattle.std.specs.List.{find, filter_map, AllByRecursion}
 use Rattle.ltx_model.specs.declared.commands.Op.{Op}
 use Rattle.ltx_model.specs.declared.looked.Noted.{Noted}
 use Rattle.ltx_model.specs.declared.replies.Entry.{Entry}
-use Rattle.ltx_model.specs.declared.rows.StoredRow.{StoredRow}
-use Rattle.ltx_model.specs.Lists.{numbered_from, change_first, without_first}
+use Rattle.ltx_model.specs.Lists.{Numbered, numbered, numbered_from, change_first, without_first}
 use Rattle.ltx_model.specs.Keys.{Cell}
 use Rattle.ltx_model.specs.Operations.{Transaction, table_of}
 use Rattle.ltx_model.specs.Agenda.{serial}
@@ -18,7 +17,7 @@ use Rattle.ltx_model.specs.Answers.{is_full}
 use Rattle.ltx_lemmas.proofs.Lists.{all_map, some_same}
 use Rattle.ltx_core.specs.Views.{ShortView, is_session}
 use Rattle.ltx_core.specs.Events.{looks_in, IsSameShort, AreSameShorts}
-use Rattle.ltx_core.specs.Stands.{WasDeletion, IsTold, AreTold, IsOpen, AreOpen}
+use Rattle.ltx_core.specs.Stands.{WasDeletion, IsTold, AreToldOf, AreTold, IsOpen, AreOpen}
 
 -- of both a search finds none, or of both the ones of the same session
 abbrev pub FoundBoth : Base → List Entry → Option Active → Option ShortView → Type 0
@@ -171,23 +170,30 @@ module _ (base : Base) (history : List Entry) where
         by_test false is rest = (opens.0, rest is)
 
   -- a longer history
-  deletion_longer : (more : List Entry) (rows : List StoredRow) (cell : Cell) (writer : ℕ) → WasDeletion base history rows cell writer → WasDeletion base (history ++ more) rows cell writer
-  deletion_longer more rows cell writer was = record {
-    earlier = was.earlier;
-    later = was.later ++ more;
-    parts = ap (λ l. l ++ more) was.parts ∙ append_assoc was.earlier was.later more;
-    rows_then = was.rows_then;
+  deletion_longer : (more : List Entry) (number : ℕ) (earlier : List Step) (step : Step) (cell : Cell) (writer : ℕ) → WasDeletion base history number earlier step cell writer
+      → WasDeletion base (history ++ more) number earlier step cell writer
+  deletion_longer more number earlier step cell writer was = record {
+    front = was.front;
+    entry = was.entry;
+    back = was.back ++ more;
+    parts = ap (λ l. l ++ more) was.parts ∙ append_assoc was.front (was.entry ∷ was.back) more;
+    session = was.session;
+    open_tx = was.open_tx;
+    before = was.before;
+    after = was.after;
+    number_is = was.number_is;
+    steps_are = was.steps_are;
     deleted = was.deleted;
   }
 
-  pub told_longer : (more : List Entry) (steps : List Step) (notes : List Noted) → AreTold base history steps notes → AreTold base (history ++ more) steps notes
-  told_longer more [] [] told = tt
-  told_longer more [] (n ∷ ns) told = absurd told
-  told_longer more (b ∷ bs) [] told = absurd told
-  told_longer more (b ∷ bs) (n ∷ ns) told = (
-    all_map (IsTold base history b.latest n.table) (IsTold base (history ++ more) b.latest n.table)
-        (λ look is gone. deletion_longer more b.latest (record { table = n.table; key = look.key }) look.writer (is gone)) (looks_in n.reach) told.0,
-    told_longer more bs ns told.1,
+  pub told_longer : (more : List Entry) (number : ℕ) (steps : List (Numbered Step)) (notes : List Noted) → AreToldOf base history number steps notes → AreToldOf base (history ++ more) number steps notes
+  told_longer more number [] [] told = tt
+  told_longer more number [] (n ∷ ns) told = absurd told
+  told_longer more number (b ∷ bs) [] told = absurd told
+  told_longer more number (b ∷ bs) (n ∷ ns) told = (
+    all_map (IsTold base history number b.earlier b.item n.table) (IsTold base (history ++ more) number b.earlier b.item n.table)
+        (λ look is gone. deletion_longer more number b.earlier b.item (record { table = n.table; key = look.key }) look.writer (is gone)) (looks_in n.reach) told.0,
+    told_longer more number bs ns told.1,
   )
 
   pub open_longer : (more : List Entry) (o : Active) (a : ShortView) → IsOpen base history o a → IsOpen base (history ++ more) o a
@@ -197,7 +203,7 @@ module _ (base : Base) (history : List Entry) where
     short = is.short;
     own = is.own;
     notes = is.notes;
-    told = told_longer more o.steps a.tx.notes is.told;
+    told = told_longer more o.number (numbered o.steps) a.tx.notes is.told;
     rising = is.rising;
   }
 
@@ -215,7 +221,7 @@ module _ (base : Base) (history : List Entry) where
     short = is.short;
     own = same.own ∙ is.own;
     notes = subst (λ t. AreNotes o.steps t.notes) (sym same.tx) is.notes;
-    told = subst (λ t. AreTold base history o.steps t.notes) (sym same.tx) is.told;
+    told = subst (λ t. AreTold base history o.number o.steps t.notes) (sym same.tx) is.told;
     rising = is.rising;
   }
 

@@ -17,24 +17,24 @@ use Rattle.ltx_model.specs.declared.replies.Reply.TheVariants as replies
 use Rattle.ltx_model.specs.declared.rows.StoredRow.{StoredRow}
 use Rattle.ltx_model.specs.declared.writes.Look.{Look}
 use Rattle.ltx_model.specs.Lists.{numbered_from, change_first}
-use Rattle.ltx_model.specs.Keys.{IsRising}
+use Rattle.ltx_model.specs.Keys.{Cell, IsRising}
 use Rattle.ltx_model.specs.StoredRows.{cell_of, row_at}
 use Rattle.ltx_model.specs.Operations.{operations, table_of, put_write, write_of, writes_of}
 use Rattle.ltx_model.specs.Rows.{rows_after_all, reply_on, found, see}
 use Rattle.ltx_model.specs.Agenda.{serial}
 use Rattle.ltx_model.specs.Notes.{IsNote, AreNotesOf, AreNotes}
-use Rattle.ltx_model.specs.States.{IsShort, Step, Active, Base, State, answered_of, transaction_of, is_of, active_of, latest}
+use Rattle.ltx_model.specs.States.{IsShort, Step, Active, Base, State, first_state, answered_of, transaction_of, is_of, active_of, latest}
 use Rattle.ltx_model.specs.Histories.{answered, with_step, reply_changes, after, state}
 use Rattle.ltx_model.specs.Answers.{operation, operation_in, operation_of_short, counted, is_full, command_reply, answer}
-use Rattle.ltx_model.proofs.OneMore.{after-is, see-is}
-use Rattle.ltx_lemmas.proofs.Lists.{all_map, all_push, all_find}
+use Rattle.ltx_model.proofs.OneMore.{state-push, after-is, see-is}
+use Rattle.ltx_lemmas.proofs.Lists.{all_map, all_push, all_find, change_find}
 use Rattle.ltx_buffer.proofs.Merges.{writes_of-push}
 use Rattle.ltx_store.specs.Kept.{cell_of_kept}
 use Rattle.ltx_chain.specs.Versions as versions
 use Rattle.ltx_store.proofs.Rows.{rows_rising}
 use Rattle.ltx_core.specs.Views.{ShortView, CoreView, is_session}
 use Rattle.ltx_core.specs.Events.{looks_in, IsDeleted, IsToldBy, HasDone, with_active}
-use Rattle.ltx_core.specs.Stands.{IsDeletion, IsTold, AreTold, IsOpen, StandsFor}
+use Rattle.ltx_core.specs.Stands.{IsDeletion, IsTold, AreToldOf, AreTold, IsOpen, StandsFor}
 use Rattle.ltx_core.proofs.Opens.{opens_find_none, FoundOpen, opens_find_some, opens_change, opens_longer, open_longer, opens_shorts, opens_full, no_holder}
 use Rattle.ltx_core.proofs.Stays.{stands_after, quiet, IsStep}
 
@@ -90,25 +90,19 @@ notes_more n earlier (c ∷ cs) (m ∷ ms) b note are is =
 pub notes_push : (steps : List Step) (notes : List Noted) (b : Step) (note : Noted) → AreNotes steps notes → IsNote b.latest (map (λ d. d.op) steps) b.op note → AreNotes (steps ++ b ∷ []) (notes ++ note ∷ [])
 notes_push steps notes b note are is = notes_more 1 [] steps notes b note are is
 
-pub told_push : (base : Base) (history : List Entry) (steps : List Step) (notes : List Noted) (b : Step) (note : Noted) → AreTold base history steps notes
-    → AllByRecursion (IsTold base history b.latest note.table) (looks_in note.reach) → AreTold base history (steps ++ b ∷ []) (notes ++ note ∷ [])
-told_push base history [] [] b note told is = (is, tt)
-told_push base history [] (m ∷ ms) b note told is = absurd told
-told_push base history (c ∷ cs) [] b note told is = absurd told
-told_push base history (c ∷ cs) (m ∷ ms) b note told is = (told.0, told_push base history cs ms b note told.1 is)
+told_more : (base : Base) (history : List Entry) (number n : ℕ) (earlier steps : List Step) (notes : List Noted) (b : Step) (note : Noted) → AreToldOf base history number (numbered_from n earlier steps) notes
+    → AllByRecursion (IsTold base history number (earlier ++ steps) b note.table) (looks_in note.reach) → AreToldOf base history number (numbered_from n earlier (steps ++ b ∷ [])) (notes ++ note ∷ [])
+told_more base history number n earlier [] [] b note told is =
+    (subst (λ (l : List Step). AllByRecursion (IsTold base history number l b note.table) (looks_in note.reach)) (append-nil earlier) is, tt)
+told_more base history number n earlier [] (m ∷ ms) b note told is = absurd told
+told_more base history number n earlier (c ∷ cs) [] b note told is = absurd told
+told_more base history number n earlier (c ∷ cs) (m ∷ ms) b note told is =
+    (told.0, told_more base history number (n + 1) (earlier ++ c ∷ []) cs ms b note told.1
+        (subst (λ (l : List Step). AllByRecursion (IsTold base history number l b note.table) (looks_in note.reach)) (sym (append_assoc earlier (c ∷ []) cs)) is))
 
--- a look of a deletion that the store tells of
-pub told_now : (core : CoreView) (base : Base) (history more : List Entry) (table : ℕ) (look : Look) → StandsFor core base history → IsToldBy core.store table look → IsTold base (history ++ more) (latest (state base history)) table look
-told_now core base history more table look stands told gone =
-    let deleted : IsDeleted core.store (record { table = table; key = look.key }) look.writer = told gone in
-    let there : IsDeletion (serial (state base history).agenda) (record { table = table; key = look.key }) deleted.version.writer = stands.deletions (record { table = table; key = look.key }) deleted.version deleted.last deleted.deletes in
-    record {
-      earlier = history;
-      later = more;
-      parts = refl;
-      rows_then = refl;
-      deleted = subst (IsDeletion (serial (state base history).agenda) (record { table = table; key = look.key })) deleted.by there;
-    }
+pub told_push : (base : Base) (history : List Entry) (number : ℕ) (steps : List Step) (notes : List Noted) (b : Step) (note : Noted) → AreTold base history number steps notes
+    → AllByRecursion (IsTold base history number steps b note.table) (looks_in note.reach) → AreTold base history number (steps ++ b ∷ []) (notes ++ note ∷ [])
+told_push base history number steps notes b note told is = told_more base history number 1 [] steps notes b note told is
 
 -- the latest rows stand in order where the store's keys do
 pub latest_rising : (core : CoreView) (base : Base) (history : List Entry) → StandsFor core base history → IsRising cell_of_kept core.store → IsRising cell_of (latest (state base history))
@@ -153,21 +147,46 @@ module _ (old : CoreView) (base : Base) (history : List Entry) (session : ℕ) (
     abbrev more : List Entry
     more = record { line = done session op; reply = reply } ∷ []
 
+    -- its entry adds the step
+    added : active_of s session ≡ Some o → active_of (state base (history ++ more)) session ≡ Some (with_step step o)
+    added there =
+        ap (λ t. active_of t session) (state-push (first_state base) history (record { line = done session op; reply = reply }) ∙ after_seen s session op o.number (latest s) (operations (transaction_of o)) reply seen_now)
+        ∙ change_find (is_of session) (with_step step) s.active o (λ u. refl) there
+
+    -- a look of a deletion that the store tells of
+    told_now : active_of s session ≡ Some o → (look : Look) → IsToldBy old.store has.note.table look → IsTold base (history ++ more) o.number o.steps step has.note.table look
+    told_now there look told gone =
+        let cell : Cell = record { table = has.note.table; key = look.key } in
+        let deleted : IsDeleted old.store cell look.writer = told gone in
+        record {
+          front = history;
+          entry = record { line = done session op; reply = reply };
+          back = [];
+          parts = refl;
+          session = session;
+          open_tx = o;
+          before = there;
+          after = added there;
+          number_is = refl;
+          steps_are = refl;
+          deleted = subst (IsDeletion (serial s.agenda) cell) deleted.by (stands.deletions cell deleted.version deleted.last deleted.deletes);
+        }
+
     -- what is kept of it is what it has now
-    done_open : IsRising cell_of (latest s) → IsOpen base (history ++ more) (with_step step o) b
-    done_open rising =
+    done_open : IsRising cell_of (latest s) → active_of s session ≡ Some o → IsOpen base (history ++ more) (with_step step o) b
+    done_open rising there =
         let longer : IsOpen base (history ++ more) o a = open_longer base history more o a is in
         let ops : List Op = map (λ d. d.op) o.steps in
         let note_now : IsNote (latest s) ops op has.note = subst (λ rows. IsNote rows ops op has.note) stands.rows (has.note_is ops is.own) in
-        let tells : AllByRecursion (IsTold base (history ++ more) (latest s) has.note.table) (looks_in has.note.reach) =
-        all_map (IsToldBy old.store has.note.table) (IsTold base (history ++ more) (latest s) has.note.table) (λ look told. told_now old base history more has.note.table look stands told) (looks_in has.note.reach) has.told in
+        let tells : AllByRecursion (IsTold base (history ++ more) o.number o.steps step has.note.table) (looks_in has.note.reach) =
+        all_map (IsToldBy old.store has.note.table) (IsTold base (history ++ more) o.number o.steps step has.note.table) (told_now there) (looks_in has.note.reach) has.told in
         record {
           session = has.session ∙ is.session;
           number = has.number ∙ is.number;
           short = is.short;
           own = has.own ∙ ap (put_write (write_of op)) is.own ∙ sym (writes_of-push [] ops op) ∙ ap writes_of (sym (map-append (λ (d : Step). d.op) o.steps (step ∷ [])));
           notes = subst (AreNotes (o.steps ++ step ∷ [])) (sym has.noted) (notes_push o.steps a.tx.notes step has.note is.notes note_now);
-          told = subst (AreTold base (history ++ more) (o.steps ++ step ∷ [])) (sym has.noted) (told_push base (history ++ more) o.steps a.tx.notes step has.note longer.told tells);
+          told = subst (AreTold base (history ++ more) o.number (o.steps ++ step ∷ [])) (sym has.noted) (told_push base (history ++ more) o.number o.steps a.tx.notes step has.note longer.told tells);
           rising = all_push (λ d. IsRising cell_of d.latest) o.steps step is.rising rising;
         }
 
@@ -184,7 +203,7 @@ module _ (old : CoreView) (base : Base) (history : List Entry) (session : ℕ) (
           deletions = stands.deletions;
           marks = stands.marks;
           commits = stands.commits;
-          active = opens_change base (history ++ more) session (with_step step) b s.active old.active o (opens_longer base history more s.active old.active stands.active) there (done_open rising);
+          active = opens_change base (history ++ more) session (with_step step) b s.active old.active o (opens_longer base history more s.active old.active stands.active) there (done_open rising there);
         })
 
   pub operated_at : (new : CoreView) (a b : ShortView) (reply : Reply) (rising : IsRising cell_of (latest s)) → find (is_session session) old.active ≡ Some a → length a.tx.notes < 65536 → HasDone old.store a op reply b

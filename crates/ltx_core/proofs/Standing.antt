@@ -77,7 +77,7 @@ module _ (base : Base) (history : List Entry) (old : CoreView) (at : StandsAt ol
         short = refl;
         own = own;
         notes = subst (λ t. AreNotes [] t.notes) (sym tx) tt;
-        told = subst (λ t. AreTold base history [] t.notes) (sym tx) tt;
+        told = subst (λ t. AreTold base history (s.last + 1) [] t.notes) (sym tx) tt;
         rising = tt;
       } in
       record {

@@ -5,13 +5,14 @@ use Rattle.ltx_model.specs.declared.looked.Noted.{Noted}
 use Rattle.ltx_model.specs.declared.replies.Entry.{Entry}
 use Rattle.ltx_model.specs.declared.rows.StoredRow.{StoredRow}
 use Rattle.ltx_model.specs.declared.writes.Look.{Look}
+use Rattle.ltx_model.specs.Lists.{Numbered, numbered}
 use Rattle.ltx_model.specs.Keys.{Cell, IsRising}
 use Rattle.ltx_model.specs.StoredRows.{cell_of, row_at}
 use Rattle.ltx_model.specs.Operations.{Transaction, operations, writes_key, writes_of}
 use Rattle.ltx_model.specs.Agenda.{serial, commits_of}
 use Rattle.ltx_model.specs.Notes.{AreNotes}
-use Rattle.ltx_model.specs.States.{IsShort, Step, Active, Base, latest, order}
-use Rattle.ltx_model.specs.Histories.{state}
+use Rattle.ltx_model.specs.States.{IsShort, Step, Active, Base, active_of, latest, order}
+use Rattle.ltx_model.specs.Histories.{with_step, state}
 use Rattle.ltx_buffer.specs.Own.{write_at}
 use Rattle.ltx_chain.specs.declared.chain.Version.{Version}
 use Rattle.ltx_chain.specs.Versions as versions
@@ -29,22 +30,33 @@ pub record IsDeletion (ts : List Transaction) (cell : Cell) (writer : ℕ) : Typ
   pub deletes : write_at (writes_of (operations tx)) cell ≡ Some (record { table = cell.table; key = cell.key; put = None })
   pub last : AllByRecursion (λ u. writes_key (operations u) cell ≡ false) back
 
--- After some front of the history the latest rows were these, and the key's last write in the order was a deletion by this transaction.
-pub record WasDeletion (base : Base) (history : List Entry) (rows : List StoredRow) (cell : Cell) (writer : ℕ) : Type 0 where
-  pub earlier : List Entry
-  pub later : List Entry
-  pub parts : history ≡ earlier ++ later
-  pub rows_then : latest (state base earlier) ≡ rows
-  pub deleted : IsDeletion (serial (state base earlier).agenda) cell writer
+-- The entry of the history after this front of it added the step to these earlier ones of the transaction with this number, and before
+-- it the key's last write in the order was a deletion by this writer.
+pub record WasDeletion (base : Base) (history : List Entry) (number : ℕ) (earlier : List Step) (step : Step) (cell : Cell) (writer : ℕ) : Type 0 where
+  pub front : List Entry
+  pub entry : Entry
+  pub back : List Entry
+  pub parts : history ≡ front ++ entry ∷ back
+  pub session : ℕ
+  pub open_tx : Active
+  pub before : active_of (state base front) session ≡ Some open_tx
+  pub after : active_of (state base (front ++ entry ∷ [])) session ≡ Some (with_step step open_tx)
+  pub number_is : open_tx.number ≡ number
+  pub steps_are : open_tx.steps ≡ earlier
+  pub deleted : IsDeletion (serial (state base front).agenda) cell writer
 
 -- a look of a deletion names the transaction that had deleted the key at the moment of the operation
-abbrev pub IsTold : Base → List Entry → List StoredRow → ℕ → Look → Type 0
-IsTold base history rows table look = look.gone ≡ true → WasDeletion base history rows (record { table = table; key = look.key }) look.writer
+abbrev pub IsTold : Base → List Entry → ℕ → List Step → Step → ℕ → Look → Type 0
+IsTold base history number earlier step table look = look.gone ≡ true → WasDeletion base history number earlier step (record { table = table; key = look.key }) look.writer
 
-abbrev pub AreTold : Base → List Entry → List Step → List Noted → Type 0
-AreTold base history [] [] = Unit {0}
-AreTold base history (b ∷ bs) (n ∷ ns) = AllByRecursion (IsTold base history b.latest n.table) (looks_in n.reach) × AreTold base history bs ns
-AreTold base history bs ns = ⊥
+abbrev pub AreToldOf : Base → List Entry → ℕ → List (Numbered Step) → List Noted → Type 0
+AreToldOf base history number [] [] = Unit {0}
+AreToldOf base history number (b ∷ bs) (n ∷ ns) = AllByRecursion (IsTold base history number b.earlier b.item n.table) (looks_in n.reach) × AreToldOf base history number bs ns
+AreToldOf base history number bs ns = ⊥
+
+-- the looks of these notes are told at the steps of the transaction with this number
+abbrev pub AreTold : Base → List Entry → ℕ → List Step → List Noted → Type 0
+AreTold base history number steps notes = AreToldOf base history number (numbered steps) notes
 
 -- What is kept of an open transaction, which is a short as long as nothing else is built: its notes are those of its steps, its own
 -- writes the last ones of each key.
@@ -54,7 +66,7 @@ pub record IsOpen (base : Base) (history : List Entry) (o : Active) (a : ShortVi
   pub short : o.kind ≡ IsShort
   pub own : a.own.writes ≡ writes_of (map (λ b. b.op) o.steps)
   pub notes : AreNotes o.steps a.tx.notes
-  pub told : AreTold base history o.steps a.tx.notes
+  pub told : AreTold base history o.number o.steps a.tx.notes
   pub rising : AllByRecursion (λ b. IsRising cell_of b.latest) o.steps
 
 abbrev pub AreOpen : Base → List Entry → List Active → List ShortView → Type 0
