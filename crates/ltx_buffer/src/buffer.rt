@@ -47,10 +47,11 @@ impl Buffer {
         }
     }
 
-    /// Makes room for a write. The writes stay as they are, after NoMemory too.
+    /// Makes room for a write; the writes stay as they are. After NoMemory nothing has changed.
     pub fn reserve_one(&mut self) -> Result<(), NoMemory>
         ensures writes { self.new.writes ≡ self.old.writes }
         ensures made { OnOk result (0 < self.new.room) }
+        ensures err { OnErr result (self.new ≡ self.old) }
     {
         self.writes.reserve(1)?;
         Ok(())
@@ -68,11 +69,11 @@ impl Buffer {
         }
     }
 
-    /// Notes a write, which takes the place of an earlier one of its key. After NoMemory the writes
-    /// are as before.
+    /// Notes a write, which takes the place of an earlier one of its key. After NoMemory nothing has
+    /// changed.
     pub fn note(&mut self, write: Write) -> Result<(), NoMemory>
         ensures noted { OnOk result (self.new.writes ≡ put_in_order cell_of_write write self.old.writes) }
-        ensures kept { OnErr result (self.new.writes ≡ self.old.writes) }
+        ensures kept { OnErr result (self.new ≡ self.old) }
     {
         self.reserve_one()?;
         self.put(write);
