@@ -172,7 +172,7 @@ impl Core {
         self.order.reserve(1)?;
         let short = self.active.remove(place);
         let tx = short.tx();
-        let _ = self.order.push(tx);
+        self.order.push_reserved(tx);
         install(
             &mut self.store,
             tx,
