@@ -115,30 +115,29 @@ pub on_err_so : {T E : Type 0} (P Q : Type 0) → (P → Q) → (r : Result T E)
 on_err_so P Q f (Ok x) p = tt
 on_err_so P Q f (Err e) p = f p
 
+-- the verdict on the short at a place
+pub verdict_at : (v w : CoreView) → v ≡ w → (place : ℕ) → place < length w.active → (x : ShortView) → x ≡ get_or v.active place x → (notes : List Noted) → notes ≡ x.tx.notes → (change : Option Change)
+    → ((steps : List Step) → AreNotes steps notes → IsVerdict (latest_rows v.store) steps change)
+    → (a : ShortView) → a ≡ get_or w.active place a → (steps : List Step) → AreNotes steps a.tx.notes → IsVerdict (latest_rows w.store) steps change
+verdict_at v w same place within x at notes noted change verdict a is steps are =
+    let one : x ≡ a = same_at w.active place x a within (subst (λ (u : CoreView). x ≡ get_or u.active place x) same at) is in
+    subst (λ (u : CoreView). IsVerdict (latest_rows u.store) steps change) same (verdict steps (subst (AreNotes steps) (sym (noted ∙ ap (λ (b : ShortView). b.tx.notes) one)) are))
+
 -- the short at a place is committed or refused
-module _ (v w : CoreView) (same : v ≡ w) (place : ℕ) (within : place < length w.active) (x : ShortView) (at : x ≡ get_or v.active place x) where
-  one : (a : ShortView) → a ≡ get_or w.active place a → x ≡ a
-  one a is = same_at w.active place x a within (subst (λ (u : CoreView). x ≡ get_or u.active place x) same at) is
-
-  verdict_at : (notes : List Noted) (change : Option Change) → notes ≡ x.tx.notes → ((steps : List Step) → AreNotes steps notes → IsVerdict (latest_rows v.store) steps change)
-      → (a : ShortView) → a ≡ get_or w.active place a → (steps : List Step) → AreNotes steps a.tx.notes → IsVerdict (latest_rows w.store) steps change
-  verdict_at notes change noted verdict a is steps are =
-      subst (λ (u : CoreView). IsVerdict (latest_rows u.store) steps change) same
-      (verdict steps (subst (AreNotes steps) (sym (noted ∙ ap (λ (b : ShortView). b.tx.notes) (one a is))) are))
-
-  pub decided_pass : (notes : List Noted) (change : Option Change) (reply : Reply) (new : CoreView) → notes ≡ x.tx.notes → change ≡ None → ((steps : List Step) → AreNotes steps notes → IsVerdict (latest_rows v.store) steps change)
-      → reply ≡ replies.Committed w.epoch → ((a : ShortView) → a ≡ get_or w.active place a → HasCommitted w place a new) → (a : ShortView) → a ≡ get_or w.active place a → HasDecided w place a reply new
-  decided_pass notes change reply new noted none verdict says commits a is = record {
+module _ (w : CoreView) (place : ℕ) (change : Option Change) (verdict : (a : ShortView) → a ≡ get_or w.active place a → (steps : List Step) → AreNotes steps a.tx.notes → IsVerdict (latest_rows w.store) steps change) where
+  pub decided_pass : (reply : Reply) (new : CoreView) → change ≡ None → reply ≡ replies.Committed w.epoch → ((a : ShortView) → a ≡ get_or w.active place a → HasCommitted w place a new)
+      → (a : ShortView) → a ≡ get_or w.active place a → HasDecided w place a reply new
+  decided_pass reply new none says commits a is = record {
     change = None;
-    verdict = subst (λ c. (steps : List Step) → AreNotes steps a.tx.notes → IsVerdict (latest_rows w.store) steps c) none (verdict_at notes change noted verdict a is);
+    verdict = subst (λ c. (steps : List Step) → AreNotes steps a.tx.notes → IsVerdict (latest_rows w.store) steps c) none (verdict a is);
     decides = (says, commits a is);
   }
 
-  pub decided_changed : (notes : List Noted) (change : Option Change) (c : Change) (rest : List ShortView) → notes ≡ x.tx.notes → change ≡ Some c → ((steps : List Step) → AreNotes steps notes → IsVerdict (latest_rows v.store) steps change)
-      → rest ≡ remove v.active place → (a : ShortView) → a ≡ get_or w.active place a → HasDecided w place a (replies.Changed c.op c.cell.table c.cell.key c.found c.current) (with_active v rest)
-  decided_changed notes change c rest noted some verdict without a is = record {
+  pub decided_changed : (v : CoreView) → v ≡ w → (c : Change) (rest : List ShortView) → change ≡ Some c → rest ≡ remove v.active place
+      → (a : ShortView) → a ≡ get_or w.active place a → HasDecided w place a (replies.Changed c.op c.cell.table c.cell.key c.found c.current) (with_active v rest)
+  decided_changed v same c rest some without a is = record {
     change = Some c;
-    verdict = subst (λ d. (steps : List Step) → AreNotes steps a.tx.notes → IsVerdict (latest_rows w.store) steps d) some (verdict_at notes change noted verdict a is);
+    verdict = subst (λ d. (steps : List Step) → AreNotes steps a.tx.notes → IsVerdict (latest_rows w.store) steps d) some (verdict a is);
     decides = (refl, subst (λ (u : CoreView). with_active v rest ≡ with_active u (remove u.active place)) same (ap (with_active v) without));
   }
 

@@ -7,10 +7,12 @@ ghost use Rattle.ltx_model.specs.declared.commands.Command.TheVariants.{Flush};
 ghost use Rattle.ltx_model.specs.declared.commands.Line.TheVariants.{Good};
 ghost use Rattle.ltx_model.specs.declared.replies.Entry.{Entry};
 ghost use Rattle.ltx_model.specs.declared.replies.Reply.TheVariants.{Committed};
-ghost use Rattle.ltx_model.specs.States.{Base, IsSound, base_of, active_of, latest, order};
+ghost use Rattle.ltx_model.specs.Notes.{AreNotes};
+ghost use Rattle.ltx_model.specs.States.{Step, Base, IsSound, base_of, active_of, latest, order};
 ghost use Rattle.ltx_model.specs.Histories.{state};
 ghost use Rattle.ltx_model.specs.Answers.{staged, IsLegalWith};
 ghost use Rattle.ltx_store.specs.Kept.{AreUpTo, latest_rows};
+ghost use Rattle.ltx_validate.specs.Verdicts.{change_in, IsVerdict};
 ghost use Rattle.ltx_core.specs.Views.{ShortView, is_session};
 ghost use Rattle.ltx_core.specs.Places.{IsFirst};
 ghost use Rattle.ltx_core.specs.Built.{built, is_abort, takes_no_memory};
@@ -134,13 +136,22 @@ impl Core {
         }
     }
 
+    // The verdict on the short at a place.
+    fn verdict(&self, place: usize) -> Result<Verdict, NoMemory>
+        requires within { place < length self.now.active }
+        ensures { IfOk result (λ verdict. (a : ShortView) → a ≡ slice_index_or self.now.active place a → (steps : List Step) → AreNotes steps a.tx.notes
+            → IsVerdict (latest_rows self.now.store) steps (change_in verdict)) }
+    {
+        check_short(self.active[place].notes(), &self.store)
+    }
+
     // Commits or refuses the short at a place.
     fn decide(&mut self, place: usize) -> Result<Reply, NoMemory>
         requires within { place < length self.old.active }
         ensures ok { IfOk result (λ reply. (a : ShortView) → a ≡ slice_index_or self.old.active place a → HasDecided self.old place a reply self.new) }
         ensures err { OnErr result (IsSame self.old self.new) }
     {
-        match check_short(self.active[place].notes(), &self.store)? {
+        match self.verdict(place)? {
             Verdict::Pass => self.accept(place),
             Verdict::Changed {
                 op,
