@@ -3,10 +3,27 @@
 
 #[cfg(test)]
 mod tests {
-    use ltx_outside::{Disk, MemDisk, MemSink, MemSource, Sink, Source};
+    use ltx_outside::{Disk, Failed, MemDisk, MemSink, MemSource, Sink, Source};
     use ltx_top::run;
     use std::alloc::Global;
     use std::test::Fail;
+
+    /// A source that gives at most eight bytes a read.
+    #[derive(Drop)]
+    struct Eights(MemSource);
+
+    impl Source for Eights {
+        ghost use Rattle.std.specs.Prelude.{None};
+
+        ghost left = { λ _. None };
+
+        ghost faults = { λ s. s.0.calls.faults };
+
+        fn read(&mut self, buffer: &mut [u8]) -> Result<usize, Failed> {
+            let most = buffer.len().min(8);
+            self.0.read(&mut buffer[..most])
+        }
+    }
 
     /// The status of the top call, proved from the bounds alone.
     fn call<S: Source, D: Disk, K: Sink>(
@@ -19,22 +36,36 @@ mod tests {
         run(alloc, words, source, disk, sink).number
     }
 
-    /// The status that words and a script give, and what is printed. The reads and writes of these numbers fail.
-    fn given(
+    /// What a call of the top gave: the status, what is printed, and the source as it is left.
+    #[derive(Drop)]
+    struct Given {
+        status: u8,
+        printed: Vec<u8>,
+        source: Eights,
+    }
+
+    /// The top call with these words and this script. The reads and writes of these numbers fail, and the first call of the disk.
+    fn called_with(
         alloc: Global,
         words: &[&str],
         script: Vec<u8>,
-        failing: &[u64],
-    ) -> Result<(u8, Vec<u8>), Fail> {
+        reads: &[u64],
+        writes: &[u64],
+    ) -> Result<Given, Fail> {
         let mut spelt = Vec::new(alloc);
         for word in words {
             spelt.push(String::from_str(alloc, word)?)?;
         }
-        let mut source = MemSource::new(script, Vec::from_slice(alloc, failing)?);
-        let mut disk = MemDisk::new(Vec::new(alloc), 0, Vec::from_slice(alloc, failing)?)?;
-        let mut sink = MemSink::new(alloc, 100_000, Vec::from_slice(alloc, failing)?)?;
+        let mut source = Eights(MemSource::new(script, Vec::from_slice(alloc, reads)?));
+        let mut disk = MemDisk::new(Vec::new(alloc), 0, vec![in alloc; 1]?)?;
+        let mut sink = MemSink::new(alloc, 100_000, Vec::from_slice(alloc, writes)?)?;
         let status = call(alloc, &spelt, &mut source, &mut disk, &mut sink);
-        Ok((status, Vec::from_slice(alloc, sink.written())?))
+        let printed = Vec::from_slice(alloc, sink.written())?;
+        Ok(Given {
+            status,
+            printed,
+            source,
+        })
     }
 
     /// Appends a line and its line feed.
@@ -60,8 +91,8 @@ mod tests {
             put_entry(&mut text, line, reply)?;
         }
         text.extend_from_slice(ending.as_bytes())?;
-        let (status, printed) = given(alloc, &["run"], script, &[])?;
-        Ok(status == 0 && printed.as_slice() == text.as_slice())
+        let given = called_with(alloc, &["run"], script, &[], &[])?;
+        Ok(given.status == 0 && given.printed.as_slice() == text.as_slice())
     }
 
     const A_READ_SEES_A_COMMIT: &[(&str, &str)] = &[
@@ -173,29 +204,61 @@ mod tests {
         put_line(&mut script, "1 get 0 x")?;
         put_entry(&mut text, "1 get 0 x", "notx")?;
         text.extend_from_slice(b"order\ndurable 0\n")?;
-        let (status, printed) = given(alloc, &["run"], script, &[])?;
-        assert_eq!(rt; status, 1);
-        assert_eq!(rt; printed.as_slice(), text.as_slice());
+        let given = called_with(alloc, &["run"], script, &[], &[])?;
+        assert_eq!(rt; given.status, 1);
+        assert_eq!(rt; given.printed.as_slice(), text.as_slice());
         Ok(())
     }
 
-    /// No device is called where the words are no command: each of them would fail.
+    /// A run that stops: its words and script, the numbers of the reads and writes that fail, the status, what is printed, and
+    /// how many bytes of the script are not read.
+    type Stop = (
+        &'static [&'static str],
+        &'static str,
+        &'static [u64],
+        &'static [u64],
+        u8,
+        &'static str,
+        usize,
+    );
+
+    const LINES: &str = "1 short\n1 abort\n1 short\n";
+
+    const FIRST: &str = "1 short => begun 1\n";
+
+    const EPOCH: &str = "epoch => epoch 2\n";
+
+    const STOPS: &[Stop] = &[
+        // Words that are no command: no device is called, so the first read is still to come, and the second one fails.
+        (&[], LINES, &[2], &[1], 2, "", 24),
+        (&["run", "now"], LINES, &[2], &[1], 2, "", 24),
+        (&["threads", "0"], LINES, &[2], &[1], 2, "", 24),
+        (&["threads", "17"], LINES, &[2], &[1], 2, "", 24),
+        (&["threads", "02"], LINES, &[2], &[1], 2, "", 24),
+        (&["drive", "7"], LINES, &[2], &[1], 2, "", 24),
+        (&["drive", "7", "100001"], LINES, &[2], &[1], 2, "", 24),
+        // A read fails: each whole line that was read is answered and printed, and nothing more is read.
+        (&["run"], "epoch\n", &[1], &[], 4, "", 6),
+        (&["run"], "epoch\n", &[2], &[], 4, EPOCH, 0),
+        (&["run"], "epoch\n1 short\n", &[2], &[], 4, EPOCH, 6),
+        (&["run"], LINES, &[2], &[], 4, FIRST, 16),
+        // A write fails: each entry was to be printed before the next read.
+        (&["run"], "epoch\n", &[], &[1], 5, "", 0),
+        (&["run"], "epoch\n", &[], &[2], 5, EPOCH, 0),
+        (&["run"], LINES, &[], &[1], 5, "", 16),
+        (&["run"], LINES, &[], &[2], 5, FIRST, 8),
+    ];
+
     #[test]
-    fn other_words_are_no_command(rt: HostRuntime) -> Result<(), Fail> {
+    fn the_first_fault_ends_a_run(rt: HostRuntime) -> Result<(), Fail> {
         let alloc = rt.alloc();
-        let others: [&[&str]; 7] = [
-            &[],
-            &["run", "now"],
-            &["threads", "0"],
-            &["threads", "17"],
-            &["threads", "02"],
-            &["drive", "7"],
-            &["drive", "7", "100001"],
-        ];
-        for words in others {
-            let (status, printed) = given(alloc, words, Vec::new(alloc), &[1])?;
-            assert_eq!(rt; status, 2);
-            assert!(rt; printed.is_empty());
+        for (words, script, reads, writes, status, printed, left) in STOPS {
+            let script = Vec::from_slice(alloc, script.as_bytes())?;
+            let mut given = called_with(alloc, words, script, reads, writes)?;
+            assert_eq!(rt; given.status, *status);
+            assert_eq!(rt; given.printed.as_slice(), printed.as_bytes());
+            let mut buffer = [0; 100];
+            assert_eq!(rt; given.source.0.read(&mut buffer)?, *left);
         }
         Ok(())
     }
