@@ -96,9 +96,11 @@ told_more base history number n earlier [] [] b note told is =
     (subst (λ (l : List Step). AllByRecursion (IsTold base history number l b note.table) (looks_in note.reach)) (append-nil earlier) is, tt)
 told_more base history number n earlier [] (m ∷ ms) b note told is = absurd told
 told_more base history number n earlier (c ∷ cs) [] b note told is = absurd told
-told_more base history number n earlier (c ∷ cs) (m ∷ ms) b note told is =
-    (told.0, told_more base history number (n + 1) (earlier ++ c ∷ []) cs ms b note told.1
-        (subst (λ (l : List Step). AllByRecursion (IsTold base history number l b note.table) (looks_in note.reach)) (sym (append_assoc earlier (c ∷ []) cs)) is))
+told_more base history number n earlier (c ∷ cs) (m ∷ ms) b note told is = (
+  told.0,
+  told_more base history number (n + 1) (earlier ++ c ∷ []) cs ms b note told.1
+      (subst (λ (l : List Step). AllByRecursion (IsTold base history number l b note.table) (looks_in note.reach)) (sym (append_assoc earlier (c ∷ []) cs)) is),
+)
 
 pub told_push : (base : Base) (history : List Entry) (number : ℕ) (steps : List Step) (notes : List Noted) (b : Step) (note : Noted) → AreTold base history number steps notes
     → AllByRecursion (IsTold base history number steps b note.table) (looks_in note.reach) → AreTold base history number (steps ++ b ∷ []) (notes ++ note ∷ [])
