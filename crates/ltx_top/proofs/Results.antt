@@ -21,7 +21,9 @@ use Rattle.ltx_top.specs.declared.status.Stop.TheVariants as stops
 use Rattle.ltx_top.specs.Transcripts.{empty_base, line_of_piece, entry_text, ending, ending_of}
 use Rattle.ltx_top.specs.Runs.{most_of_script, took, is_bad, Ran}
 use Rattle.ltx_top.specs.Endings.{Stops, status_number}
-use Rattle.ltx_top.specs.Progress.{Devices, Hand, Progress, Halted, Ends, RoseAt, line_in}
+use Rattle.ltx_top.specs.Progress.{Devices, Hand, Progress, Halted, Ends, RoseAt}
+use Rattle.ltx_top.specs.declared.heard.Heard.{Heard}
+use Rattle.ltx_top.specs.Spellings.{line_in}
 use Rattle.ltx_top.proofs.Steps.{handed, half_handed, taken_line, answered_line, lost_line, halt, source_failed, source_passed, took_past, took_short, progress_within, halted_within, ran, ending_stopped, halted_stopped, halted_stops, started}
 
 not_past : (a b : ℕ) → (a < b → ⊥) → b ≤ a
@@ -47,14 +49,14 @@ module _ (before after w0 w1 : Option (List ℕ)) (reader next : LinesState) (co
   begins : (start : Devices) → Begins start → Progress start (record { left = before; written = w1 }) (record { reader = reader; core = core; text = text1; malformed = malformed }) []
   begins start p = handed start before w0 w1 reader core text0 text1 done malformed [] out parts p
 
-  pub took_on : (r : Result (Option Line) Stop) → IfOk r (λ line. (gave : List (Option (List ℕ))) × Cuts reader next before after gave × (map line_of_piece gave ≡ line_in line))
+  pub took_on : (r : Result (Option Heard) Stop) → IfOk r (λ line. (gave : List (Option (List ℕ))) × Cuts reader next before after gave × (map line_of_piece gave ≡ line_in line))
       → (next.limit < next.taken → IsErrOf r stops.TooMuch)
       → IfOk r (λ line. (start : Devices) → Begins start → Progress start (record { left = after; written = w1 }) (record { reader = next; core = core; text = text1; malformed = malformed }) (line_in line))
   took_on (Ok line) gave past = λ start p.
       taken_line start before after w1 reader next core text1 malformed gave.0 (line_in line) gave.1 gave.2 limit (not_past next.limit next.taken (λ over. let e = past over in cc)) (begins start p)
   took_on (Err stop) gave past = tt
 
-  pub took_stops : (r : Result (Option Line) Stop) → (IsErrOf r stops.NoMemory → (gave : List (Option (List ℕ))) × Cuts reader next before after gave)
+  pub took_stops : (r : Result (Option Heard) Stop) → (IsErrOf r stops.NoMemory → (gave : List (Option (List ℕ))) × Cuts reader next before after gave)
       → (IsErrOf r stops.Source → Cuts reader next before after [] × (feeds reader.held ≡ 0) × (feeds next.held ≡ 0))
       → (IsErrOf r stops.TooMuch → Cuts reader next before after [] × (next.limit < next.taken))
       → (IsErrOf r stops.TooMuch → reader.taken ≤ reader.limit → (feeds reader.held ≡ 0) × NoFeedAhead reader before)
@@ -77,16 +79,16 @@ module _ (before after w0 w1 : Option (List ℕ)) (reader next : LinesState) (co
         took_past start before after w1 reader next core text1 malformed pass.0 limit pass.1 (begins start p),
       )
 
-pub took_rose : (r : Result (Option Line) Stop) (s s' k k' : ℕ) → (IsErrOf r stops.Source → Rose s s') → (IsErrOf r stops.Sink → ⊥) → IfErr r (λ stop. RoseAt stop s s' k k')
+pub took_rose : (r : Result (Option Heard) Stop) (s s' k k' : ℕ) → (IsErrOf r stops.Source → Rose s s') → (IsErrOf r stops.Sink → ⊥) → IfErr r (λ stop. RoseAt stop s s' k k')
 took_rose (Ok line) s s' k k' rose other = tt
 took_rose (Err stops.NoMemory) s s' k k' rose other = tt
 took_rose (Err stops.Source) s s' k k' rose other = rose refl
 took_rose (Err stops.Sink) s s' k k' rose other = absurd (other refl)
 took_rose (Err stops.TooMuch) s s' k k' rose other = tt
 
-pub took_less : (r : Result (Option Line) Stop) (before after : Option (List ℕ)) (reader next : LinesState) → IfOk r (λ line. (gave : List (Option (List ℕ))) × Cuts reader next before after gave × (map line_of_piece gave ≡ line_in line))
-    → next.taken ≤ next.limit + 1 → next.limit ≡ reader.limit → IfOk r (λ line. (l : Line) → line ≡ Some l → to_go next < to_go reader)
-took_less (Ok line) before after reader next gave least limit = λ l is.
+pub took_less : (r : Result (Option Heard) Stop) (before after : Option (List ℕ)) (reader next : LinesState) → IfOk r (λ line. (gave : List (Option (List ℕ))) × Cuts reader next before after gave × (map line_of_piece gave ≡ line_in line))
+    → next.taken ≤ next.limit + 1 → next.limit ≡ reader.limit → IfOk r (λ line. (h : Heard) → line ≡ Some h → to_go next < to_go reader)
+took_less (Ok line) before after reader next gave least limit = λ h is.
     let one : length gave.0 ≡ 1 = sym (length-map gave.0 line_of_piece) ∙ ap length (gave.2 ∙ ap line_in is) in
     omega (arith, fewer_to_go reader next before after gave.0 gave.1 least limit, one)
 took_less (Err stop) before after reader next gave least limit = tt

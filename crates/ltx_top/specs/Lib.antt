@@ -3,3 +3,4 @@ pub mod Runs
 pub mod Endings
 pub mod Progress
 pub mod Hands
+pub mod Spellings

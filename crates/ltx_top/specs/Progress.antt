@@ -1,5 +1,5 @@
 -- A run under way: what was taken, answered and printed so far.
-use Rattle.std.specs.Prelude.{◌≡◌, ℕ, ◌≤◌, Bool, List, [], ◌∷◌, ◌++◌, map, Option, Some, None, IfSome, ◌<◌}
+use Rattle.std.specs.Prelude.{◌≡◌, ℕ, ◌≤◌, Bool, List, ◌++◌, map, Option, IfSome, ◌<◌}
 use Rattle.std.specs.Io.KnownBytes.{Appends}
 use Rattle.ltx_model.specs.declared.commands.Line.{Line}
 use Rattle.ltx_model.specs.declared.replies.Entry.{Entry}
@@ -25,11 +25,6 @@ pub record Hand : Type 0 where
   pub core : CoreView
   pub text : List ℕ
   pub malformed : Bool
-
--- the line that a call gave, if it gave one
-abbrev pub line_in : Option Line → List Line
-line_in None = []
-line_in (Some line) = line ∷ []
 
 -- Since the start, the pieces that the reader gave are the lines of a legal history, for which the core stands, and these
 -- pending ones; the text of the history was written, or is in hand; and it is known whether a reply is `bad`.

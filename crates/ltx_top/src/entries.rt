@@ -3,45 +3,49 @@
 ghost use Rattle.std.specs.Prelude.{◌≡◌, ◌++◌, length, take, OnOk, OnErr};
 ghost use Rattle.ltx_reply.specs.Texts.{IsReply};
 ghost use Rattle.ltx_top.specs.Transcripts.{line_text, entry_text};
+ghost use Rattle.ltx_top.specs.Spellings.{HasSpelling};
 
+use crate::heard::Heard;
 use ltx_model::commands::Line;
 use ltx_model::memory::NoMemory;
 use ltx_model::replies::Reply;
 use ltx_reply::print::print_reply;
-use ltx_script::print::print_command;
 
 /// Appends a line: the spelling of its command, or `?`.
-fn put_line(line: &Line, out: &mut Vec<u8>) -> Result<(), NoMemory>
-    ensures ok { OnOk result (out.new.items ≡ out.old.items ++ line_text line.now) }
+fn put_line(heard: &Heard, out: &mut Vec<u8>) -> Result<(), NoMemory>
+    requires spelt { HasSpelling heard.now }
+    ensures ok { OnOk result (out.new.items ≡ out.old.items ++ line_text heard.now.line) }
     ensures front { take (length out.old.items) out.new.items ≡ out.old.items }
 {
-    match line {
-        Line::Good(command) => print_command(command, out),
+    match &heard.line {
+        Line::Good(_) => Ok(out.extend_from_slice(&heard.bytes)?),
         Line::Bad(_) => Ok(out.push(b'?')?),
     }
 }
 
 /// Appends the parts of an entry, or a front of them where memory is wanting.
 #[tactic(auto, unfolding(crate::specs::Transcripts::entry_text))]
-fn put_parts(line: &Line, reply: &Reply, out: &mut Vec<u8>) -> Result<(), NoMemory>
+fn put_parts(heard: &Heard, reply: &Reply, out: &mut Vec<u8>) -> Result<(), NoMemory>
+    requires spelt { HasSpelling heard.now }
     requires kept { IsReply reply.now }
-    ensures ok { OnOk result (out.new.items ≡ out.old.items ++ entry_text (record { line = line.now; reply = reply.now })) }
+    ensures ok { OnOk result (out.new.items ≡ out.old.items ++ entry_text (record { line = heard.now.line; reply = reply.now })) }
     ensures front { take (length out.old.items) out.new.items ≡ out.old.items }
 {
-    put_line(line, out)?;
+    put_line(heard, out)?;
     out.extend_from_slice(b" => ")?;
     print_reply(reply, out)?;
     Ok(out.push(b'\n')?)
 }
 
 /// Appends an entry. Without memory `out` stays as it was.
-pub(crate) fn put_entry(line: &Line, reply: &Reply, out: &mut Vec<u8>) -> Result<(), NoMemory>
+pub(crate) fn put_entry(heard: &Heard, reply: &Reply, out: &mut Vec<u8>) -> Result<(), NoMemory>
+    requires spelt { HasSpelling heard.now }
     requires kept { IsReply reply.now }
-    ensures ok { OnOk result (out.new.items ≡ out.old.items ++ entry_text (record { line = line.now; reply = reply.now })) }
+    ensures ok { OnOk result (out.new.items ≡ out.old.items ++ entry_text (record { line = heard.now.line; reply = reply.now })) }
     ensures err { OnErr result (out.new.items ≡ out.old.items) }
 {
     let start = out.len();
-    let done = put_parts(line, reply, out);
+    let done = put_parts(heard, reply, out);
     if done.is_err() {
         out.truncate(start);
     }

@@ -5,6 +5,7 @@ mod answer;
 mod call;
 mod ending;
 mod entries;
+mod heard;
 mod output;
 mod session;
 mod status;

@@ -1,6 +1,6 @@
 //! A run under way: its core, its reader, and the text that is not written yet.
 
-ghost use Rattle.std.specs.Prelude.{◌≡◌, ◌≤◌, ◌<◌, ℕ, List, Option, Some, None, [], ◌∷◌, ◌++◌, take, true, false, IfOk, OnOk, OnErr, IfErr};
+ghost use Rattle.std.specs.Prelude.{◌≡◌, ◌≤◌, ◌<◌, ℕ, List, Option, Some, None, [], ◌∷◌, ◌++◌, take, true, false, IfOk, IfSome, OnOk, OnErr, IfErr};
 ghost use Rattle.std.specs.Io.KnownBytes.{Appends, IsAtEnd};
 ghost use Rattle.ltx_model.specs.declared.replies.Entry.{Entry};
 ghost use Rattle.ltx_model.specs.Histories.{state};
@@ -9,17 +9,19 @@ ghost use Rattle.ltx_text.specs.Lines.{fresh, to_go};
 ghost use Rattle.ltx_top.specs.Transcripts.{empty_base, ending_of};
 ghost use Rattle.ltx_top.specs.Runs.{Ran, most_of_script, took};
 ghost use Rattle.ltx_top.specs.Endings.{Stops};
-ghost use Rattle.ltx_top.specs.Progress.{Devices, Ends, IsUnderWay, Progress, RoseAt, line_in};
+ghost use Rattle.ltx_top.specs.Progress.{Devices, Ends, IsUnderWay, Progress, RoseAt};
+ghost use Rattle.ltx_top.specs.Spellings.{HasSpelling, line_in};
+ghost use Rattle.ltx_top.specs.declared.heard.Heard.{Heard};
 ghost use Rattle.ltx_top.specs.Hands.{hand_of};
 ghost use Rattle.ltx_top.specs.declared.status.Stop.TheVariants as stops;
 
 use crate::ending::put_ending;
+use crate::heard::Heard;
 use crate::output::{hand_over, make_way, relieve};
 use crate::status::Stop;
 use crate::turns::{malformed_after, next_line, serve};
 use ltx_core::Core;
 use ltx_model::base::Recovered;
-use ltx_model::commands::Line;
 use ltx_model::memory::NoMemory;
 use ltx_model::rows::StoredList;
 use ltx_outside::{Sink, Source};
@@ -68,11 +70,12 @@ impl Session {
         &mut self,
         source: &mut S,
         sink: &mut K,
-    ) -> Result<Option<Line>, Stop>
+    ) -> Result<Option<Heard>, Stop>
         ensures on { IfOk result (λ line. (start : Devices) → Progress start (record { left = S.left source.old; written = K.written sink.old }) (hand_of self.old) []
             → Progress start (record { left = S.left source.new; written = K.written sink.new }) (hand_of self.new) (line_in line)) }
+        ensures spelt { IfOk result (λ line. IfSome line HasSpelling) }
         ensures ended { IfOk result (λ line. line ≡ None → (self.new.lines.held ≡ []) × IsAtEnd (S.left source.new)) }
-        ensures less { IfOk result (λ line. (l : Line) → line ≡ Some l → to_go self.new.lines < to_go self.old.lines) }
+        ensures less { IfOk result (λ line. (heard : Heard) → line ≡ Some heard → to_go self.new.lines < to_go self.old.lines) }
         ensures stops { IfErr result (λ stop. (start : Devices) → Progress start (record { left = S.left source.old; written = K.written sink.old }) (hand_of self.old) []
             → Ends stop start (record { left = S.left source.new; written = K.written sink.new }) self.new.text.items) }
         ensures rose { IfErr result (λ stop. RoseAt stop (S.faults source.old) (S.faults source.new) (K.faults sink.old) (K.faults sink.new)) }
@@ -86,17 +89,18 @@ impl Session {
     }
 
     /// Answers a line and gathers its entry. The gathered text is handed to the sink where there is much of it.
-    fn answer_line<K: Sink>(&mut self, line: Line, sink: &mut K) -> Result<(), Stop>
+    fn answer_line<K: Sink>(&mut self, heard: Heard, sink: &mut K) -> Result<(), Stop>
         requires under_way { IsUnderWay self.old.core }
-        ensures on { OnOk result ((start : Devices) (left : Option (List ℕ)) → Progress start (record { left = left; written = K.written sink.old }) (hand_of self.old) (line ∷ [])
+        requires spelt { HasSpelling heard }
+        ensures on { OnOk result ((start : Devices) (left : Option (List ℕ)) → Progress start (record { left = left; written = K.written sink.old }) (hand_of self.old) (heard.line ∷ [])
             → Progress start (record { left = left; written = K.written sink.new }) (hand_of self.new) []) }
         ensures same { self.new.lines ≡ self.old.lines }
-        ensures stops { IfErr result (λ stop. (start : Devices) (left : Option (List ℕ)) → Progress start (record { left = left; written = K.written sink.old }) (hand_of self.old) (line ∷ [])
+        ensures stops { IfErr result (λ stop. (start : Devices) (left : Option (List ℕ)) → Progress start (record { left = left; written = K.written sink.old }) (hand_of self.old) (heard.line ∷ [])
             → Ends stop start (record { left = left; written = K.written sink.new }) self.new.text.items) }
         ensures rose { IfErr result (λ stop. (s s' : ℕ) → RoseAt stop s s' (K.faults sink.old) (K.faults sink.new)) }
         ensures counted { K.faults sink.old ≤ K.faults sink.new }
     {
-        match serve(&mut self.core, &line, &mut self.text) {
+        match serve(&mut self.core, &heard, &mut self.text) {
             Err(_) => Err(Stop::NoMemory),
             Ok(reply) => {
                 self.malformed = malformed_after(self.malformed, &reply);
@@ -121,7 +125,7 @@ impl Session {
         match self.take_line(source, sink) {
             Err(stop) => Err(stop),
             Ok(None) => Ok(false),
-            Ok(Some(line)) => match self.answer_line(line, sink) {
+            Ok(Some(heard)) => match self.answer_line(heard, sink) {
                 Err(stop) => Err(stop),
                 Ok(()) => Ok(true),
             },

@@ -1,6 +1,6 @@
 //! One turn of a run: a line is taken, answered, and gathered as text.
 
-ghost use Rattle.std.specs.Prelude.{◌≡◌, ◌||◌, ◌≤◌, ◌<◌, ◌+◌, ℕ, List, Option, None, [], ◌∷◌, ◌++◌, map, IfOk, OnErr, IsErrOf};
+ghost use Rattle.std.specs.Prelude.{◌≡◌, ◌||◌, ◌≤◌, ◌<◌, ◌+◌, ℕ, List, Option, None, [], ◌∷◌, ◌++◌, map, IfOk, IfSome, OnErr, IsErrOf};
 ghost use Rattle.std.specs.Io.KnownBytes.{IsAtEnd};
 ghost use Rattle.ltx_model.specs.declared.replies.Entry.{Entry};
 ghost use Rattle.ltx_model.specs.Histories.{state};
@@ -11,11 +11,13 @@ ghost use Rattle.ltx_core.specs.Stands.{StandsFor};
 ghost use Rattle.ltx_text.specs.Lines.{Cuts, NoFeedAhead, feeds};
 ghost use Rattle.ltx_top.specs.Transcripts.{empty_base, entry_text, line_of_piece};
 ghost use Rattle.ltx_top.specs.Runs.{is_bad};
-ghost use Rattle.ltx_top.specs.Progress.{IsUnderWay, line_in};
+ghost use Rattle.ltx_top.specs.Progress.{IsUnderWay};
+ghost use Rattle.ltx_top.specs.Spellings.{HasSpelling, line_in};
 ghost use Rattle.ltx_top.specs.declared.status.Stop.TheVariants as stops;
 
 use crate::answer::answer;
 use crate::entries::put_entry;
+use crate::heard::Heard;
 use crate::status::Stop;
 use ltx_core::Core;
 use ltx_model::commands::{Bad, Line};
@@ -32,8 +34,9 @@ pub(crate) fn next_line<S: Source>(
     alloc: Global,
     lines: &mut Lines,
     source: &mut S,
-) -> Result<Option<Line>, Stop>
+) -> Result<Option<Heard>, Stop>
     ensures gave { IfOk result (λ line. (gave : List (Option (List ℕ))) × Cuts lines.old lines.new (S.left source.old) (S.left source.new) gave × (map line_of_piece gave ≡ line_in line)) }
+    ensures spelt { IfOk result (λ line. IfSome line HasSpelling) }
     ensures lost { IsErrOf result stops.NoMemory → (gave : List (Option (List ℕ))) × Cuts lines.old lines.new (S.left source.old) (S.left source.new) gave }
     ensures failed { IsErrOf result stops.Source → Cuts lines.old lines.new (S.left source.old) (S.left source.new) [] × (feeds lines.old.held ≡ 0) × (feeds lines.new.held ≡ 0) }
     ensures passed { IsErrOf result stops.TooMuch → Cuts lines.old lines.new (S.left source.old) (S.left source.new) [] × (lines.new.limit < lines.new.taken) }
@@ -48,8 +51,14 @@ pub(crate) fn next_line<S: Source>(
     ensures counted { S.faults source.old ≤ S.faults source.new }
 {
     match lines.next(source) {
-        Ok(Piece::Line(bytes)) => Ok(Some(parse_line(alloc, &bytes)?)),
-        Ok(Piece::TooLong) => Ok(Some(Line::Bad(Bad::Long))),
+        Ok(Piece::Line(bytes)) => {
+            let line = parse_line(alloc, &bytes)?;
+            Ok(Some(Heard { line, bytes }))
+        }
+        Ok(Piece::TooLong) => Ok(Some(Heard {
+            line: Line::Bad(Bad::Long),
+            bytes: Vec::new(alloc),
+        })),
         Ok(Piece::End) => Ok(None),
         Err(TextFault::ReadFault) => Err(Stop::Source),
         Err(TextFault::TooMuch) => Err(Stop::TooMuch),
@@ -58,17 +67,18 @@ pub(crate) fn next_line<S: Source>(
 }
 
 /// Answers a line, and gathers its entry. After want of memory the gathered text is as before.
-pub(crate) fn serve(core: &mut Core, line: &Line, text: &mut Vec<u8>) -> Result<Reply, NoMemory>
+pub(crate) fn serve(core: &mut Core, heard: &Heard, text: &mut Vec<u8>) -> Result<Reply, NoMemory>
     requires under_way { IsUnderWay core.old }
+    requires spelt { HasSpelling heard.now }
     ensures reply { IfOk result (λ reply. (history : List Entry) → IsLegalWith built empty_base history → StandsFor core.old empty_base history
-        → reply ≡ staged built (state empty_base history) line.now) }
+        → reply ≡ staged built (state empty_base history) heard.now.line) }
     ensures stands { IfOk result (λ reply. (history : List Entry) → IsLegalWith built empty_base history → StandsFor core.old empty_base history
-        → StandsFor core.new empty_base (history ++ record { line = line.now; reply = reply } ∷ [])) }
-    ensures text { IfOk result (λ reply. text.new.items ≡ text.old.items ++ entry_text (record { line = line.now; reply = reply })) }
+        → StandsFor core.new empty_base (history ++ record { line = heard.now.line; reply = reply } ∷ [])) }
+    ensures text { IfOk result (λ reply. text.new.items ≡ text.old.items ++ entry_text (record { line = heard.now.line; reply = reply })) }
     ensures kept { OnErr result (text.new.items ≡ text.old.items) }
 {
-    let reply = answer(core, line)?;
-    put_entry(line, &reply, text)?;
+    let reply = answer(core, &heard.line)?;
+    put_entry(heard, &reply, text)?;
     Ok(reply)
 }
 
