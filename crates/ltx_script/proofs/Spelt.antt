@@ -23,6 +23,7 @@ use Rattle.ltx_text.proofs.WordLemmas.{word_is_some, word_is_visible, plain_spel
 use Rattle.ltx_script.specs.Commands.{joined, commas, tables_of, tables_text, set_text, writes_word, reads_words, verb_words, command_words, command_text, IsKey, IsBound, IsValue, IsVerb, IsCommand}
 use Rattle.ltx_script.specs.Lines.{cut_at, words_of, is_word, table_at, session_at, key_at, bound_at, value_at, writes_at, reads_at, one_or_two, two, three, long_at, get_at, scan_at, put_at, del_at, verb_at, asked_at, ask_at, command_at, said_at, most_bytes, reading, line_from, line_of}
 use Rattle.ltx_script.specs.Rising.{IsRisingFrom}
+use Rattle.ltx_script.proofs.Parts.{no_space}
 use Rattle.ltx_script.proofs.ValueLemmas.{number_some, bytes_again, key_some, bound_some, value_some, other_bytes}
 use Rattle.ltx_script.proofs.Readings.{ok_is}
 use Rattle.ltx_script.proofs.SetLemmas.{tables_rise}
@@ -34,9 +35,6 @@ both true false e = absurd cc
 both false b e = absurd cc
 
 -- ---- words
-
-no_space : (b : ℕ) → is_visible b ≡ true → (b == 32) ≡ false
-no_space b visible = grind arith
 
 no_spaces : (word : List ℕ) → list_all is_visible word ≡ true → AllByRecursion (λ b. (b == 32) ≡ false) word
 no_spaces [] visible = tt

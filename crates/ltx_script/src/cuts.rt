@@ -32,35 +32,21 @@ fn is_visible(byte: u8) -> bool
     byte.is_ascii_graphic()
 }
 
-/// Whether all bytes are visible.
-fn are_visible(text: &[u8]) -> bool
-    ensures { result ≡ list_all is_visible text.now }
-{
-    text.iter().all(|b| is_visible(*b))
-}
-
-/// Whether the text is a word: one or more visible bytes.
-fn is_word(text: &[u8]) -> bool
-    ensures { result ≡ is_word text.now }
-{
-    !text.is_empty() && are_visible(text)
-}
-
 /// Whether the line is one or more words with one space between two.
 pub(crate) fn are_words(line: &[u8]) -> bool
     ensures { result ≡ list_all is_word (words_of line.now) }
 {
-    let mut text = line;
-    loop {
-        let (word, after) = cut(text, b' ');
-        if !is_word(word) {
+    let mut in_word = false;
+    for &byte in line {
+        if is_visible(byte) {
+            in_word = true;
+        } else if in_word && byte == b' ' {
+            in_word = false;
+        } else {
             return false;
         }
-        let Some(after) = after else {
-            return true;
-        };
-        text = after;
     }
+    in_word
 }
 
 /// That there is no further word.

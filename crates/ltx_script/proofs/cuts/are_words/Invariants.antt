@@ -1,10 +1,9 @@
-use Rattle.std.proofs.Common.{◌≡◌, length}
+use Rattle.std.proofs.Common.{◌≡◌, drop}
 use Rattle.std.specs.List.{list_all}
 use Rattle.ltx_script.specs.Lines.{words_of, is_word}
+use Rattle.ltx_script.proofs.Parts.{are_rest}
 use Rattle.ltx_script.proofs.cuts.are_words.Given as goal
 
-abbrev pub invariant-loop-after : goal.invariant-loop-after
-invariant-loop-after l = list_all is_word (words_of l.line) ≡ list_all is_word (words_of l.text)
-
-abbrev pub decreases-loop-after : goal.decreases-loop-after
-decreases-loop-after l = length l.text
+-- the line is words where what is left of it goes on as words
+abbrev pub invariant-loop-byte : goal.invariant-loop-byte
+invariant-loop-byte l = (list_all is_word (words_of l.line) ≡ are_rest l.in_word (words_of (drop l.byte-index l.line)))
