@@ -7,3 +7,4 @@ pub mod Readings
 pub mod Spelt
 pub mod Refused
 pub mod OneCause
+pub mod Answered

@@ -1,38 +1,42 @@
 -- Where a text is cut, and words read byte by byte.
-use Rattle.std.proofs.Common.{◌≡◌, ℕ, zero, suc, ◌<◌, ◌≤◌, ◌+◌, Bool, true, false, ◌==◌, ◌&&◌, cond, List, [], ◌∷◌, length, get_or, take, drop, refl, ap, ◌∙◌, arith, inl, inr, Err}
-use Rattle.std.specs.List.{list_all, onto_first, slice_split}
-use Rattle.std.proofs.lemmas.Bool.{cases_Bool, lt-ltb}
-use Rattle.std.proofs.lemmas.List.{drop_more, drop_all}
-use Rattle.std.proofs.lemmas.List.Splits.{slice_split-cons_no, slice_split-cons_yes}
+use Rattle.std.proofs.Common.{◌≡◌, ℕ, ◌<◌, ◌≤◌, ◌+◌, Bool, true, false, ◌==◌, ◌&&◌, cond, List, [], ◌∷◌, length, get_or, take, drop, Some, None, Err, refl, sym, ap, ◌∙◌, arith, inl, inr}
+use Rattle.std.specs.Prelude.{nat_lt}
+use Rattle.std.specs.List.{list_all, onto_first, slice_split, position, position_or_len}
+use Rattle.std.proofs.lemmas.Bool.{cases_Bool, lt-ltb, ltb-true}
+use Rattle.std.proofs.lemmas.Bool.Decides.{nat_tests}
+use Rattle.std.proofs.lemmas.List.{drop_more, drop_all, drop-drop}
+use Rattle.std.proofs.lemmas.List.Elements.{All-from_get_or}
+use Rattle.std.proofs.lemmas.List.Sums.{fails_before_first}
+use Rattle.std.proofs.lemmas.List.Splits.{slice_split-cons_no, slice_split-cons_yes, slice_split_none, slice_split_first}
 use Rattle.ltx_model.specs.declared.commands.Bad.TheVariants as causes
 use Rattle.ltx_text.specs.Words.{is_visible}
 use Rattle.ltx_script.specs.Lines.{alone, cut_at, words_of, is_word}
 
--- no byte before a place is the one at which the text is cut
-abbrev pub NoneBefore : ℕ → List ℕ → ℕ → Type 0
-NoneBefore byte text n = (k : ℕ) → 0 ≤ k → k < n → (get_or text k 0 == byte) ≡ true → ⊥
+-- what is said of the first place, where there is none, and where there is one
+first_none : (first most : ℕ) → cond (nat_lt first most) (Some first) None ≡ None → most ≤ first
+first_none first most e = grind (arith, nat_tests)
 
-is_other : (b byte : ℕ) → ((b == byte) ≡ true → ⊥) → (b == byte) ≡ false
-is_other b byte other = elim (cases_Bool (b == byte)) [ inl is ↦ absurd (other is) | inr is ↦ is ]
+first_some : (first most i : ℕ) → cond (nat_lt first most) (Some first) None ≡ Some i → (first < most) × (first ≡ i)
+first_some first most i e = elim (cases_Bool (nat_lt first most)) [
+  | inl e1 ↦ let found : Some first ≡ Some i = (rw e1 at e) in (ltb-true first most e1, cc)
+  | inr e0 ↦ let none : None ≡ Some i = (rw e0 at e) in absurd cc
+]
 
-none_behind : (byte b n : ℕ) (text : List ℕ) → NoneBefore byte (b ∷ text) (suc n) → NoneBefore byte text n
-none_behind byte b n text none = λ k low high is. none (suc k) (omega arith) (omega (arith, high)) is
-
-pub cut_whole : (byte : ℕ) (text : List ℕ) → NoneBefore byte text (length text) → cut_at byte text ≡ text ∷ []
+-- a text is one part where the byte is not in it
+pub cut_whole : (byte : ℕ) (text : List ℕ) → position (λ b. b == byte) text ≡ None → cut_at byte text ≡ text ∷ []
 unfolding cut_at
-cut_whole byte [] none = refl
-cut_whole byte (b ∷ text) none =
-    slice_split-cons_no (λ x. x == byte) b text (is_other b byte (none 0 (omega arith) (omega arith)))
-    ∙ ap (onto_first b) (cut_whole byte text (none_behind byte b (length text) text none))
+cut_whole byte text none =
+    let high = first_none (position_or_len (λ b. b == byte) text) (length text) none in
+    slice_split_none (λ b. b == byte) text (All-from_get_or (λ b. (b == byte) ≡ false) text 0 (λ i low. fails_before_first (λ b. b == byte) text i 0 (omega (arith, low, high))))
 
-pub cut_there : (byte : ℕ) (text : List ℕ) (i : ℕ) → i < length text → NoneBefore byte text i → (get_or text i 0 == byte) ≡ true
-    → cut_at byte text ≡ take i text ∷ cut_at byte (drop 1 (drop i text))
+-- and its first part ends where the byte first stands
+pub cut_there : (byte : ℕ) (text : List ℕ) (i : ℕ) → position (λ b. b == byte) text ≡ Some i → cut_at byte text ≡ take i text ∷ cut_at byte (drop 1 (drop i text))
 unfolding cut_at
-cut_there byte [] i low none is = absurd (omega (arith, low))
-cut_there byte (b ∷ text) zero low none is = slice_split-cons_yes (λ x. x == byte) b text is
-cut_there byte (b ∷ text) (suc i) low none is =
-    slice_split-cons_no (λ x. x == byte) b text (is_other b byte (none 0 (omega arith) (omega arith)))
-    ∙ ap (onto_first b) (cut_there byte text i (omega (arith, low)) (none_behind byte b i text none) is)
+cut_there byte text i found =
+    let first = first_some (position_or_len (λ b. b == byte) text) (length text) i found in
+    slice_split_first (λ b. b == byte) text 0 first.0
+    ∙ ap (λ n. take n text ∷ slice_split (λ b. b == byte) (drop (n + 1) text)) first.1
+    ∙ ap (λ (t : List ℕ). take i text ∷ slice_split (λ b. b == byte) t) (sym (drop-drop 1 i text))
 
 -- a text has at least one part
 pub alone_more : {X : Type 0} (byte : ℕ) (text : List ℕ) (x : X) → alone (cut_at byte text) x ≡ Err causes.Words
@@ -132,6 +136,9 @@ pub space_taken : (in_word : Bool) (text : List ℕ) (i : ℕ) → i < length te
     → are_rest in_word (words_of (drop i text)) ≡ are_rest false (words_of (drop (i + 1) text))
 space_taken true text i low inside is = taken true text i low ∙ rest_space (get_or text i 0) (drop (i + 1) text) (ap (λ b. b == 32) is)
 space_taken false text i low inside is = absurd cc
+
+is_other : (b byte : ℕ) → ((b == byte) ≡ true → ⊥) → (b == byte) ≡ false
+is_other b byte other = elim (cases_Bool (b == byte)) [ inl is ↦ absurd (other is) | inr is ↦ is ]
 
 pub other_taken : (in_word : Bool) (text : List ℕ) (i : ℕ) → i < length text → is_visible (get_or text i 0) ≡ false → (get_or text i 0 ≡ 32 → ⊥)
     → are_rest in_word (words_of (drop i text)) ≡ false

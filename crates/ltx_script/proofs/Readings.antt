@@ -302,7 +302,7 @@ command_is word words command e = elim (chosen (bytes_eq word (codes "epoch")) _
   ]
 ]
 
-said_is : (words : List (List ℕ)) (command : Command) → said_at words ≡ Ok command → Commands words command
+pub said_is : (words : List (List ℕ)) (command : Command) → said_at words ≡ Ok command → Commands words command
 said_is [] command e = absurd cc
 said_is (word ∷ words) command e = command_is word words command e
 

@@ -185,7 +185,7 @@ verb_true (verbs.Do (Del table key)) fits = rw (decimal_word table (omega (arith
 verb_true verbs.Commit fits = refl
 verb_true verbs.Abort fits = refl
 
-words_true : (command : Command) → IsCommand command → list_all is_word (command_words command) ≡ true
+pub words_true : (command : Command) → IsCommand command → list_all is_word (command_words command) ≡ true
 words_true commands.Epoch fits = refl
 words_true commands.Flush fits = refl
 words_true commands.Prune fits = refl

@@ -1,6 +1,12 @@
 -- How a reader's answer stands to a reading of lists.
-use Rattle.std.specs.Prelude.{◌≡◌, Result, Ok, Err}
+use Rattle.std.specs.Prelude.{◌≡◌, ℕ, List, if◌then◌else◌, Result, Ok, Err}
+use Rattle.std.specs.List.{list_all}
 use Rattle.ltx_model.specs.declared.commands.Bad.{Bad}
+use Rattle.ltx_model.specs.declared.commands.Bad.TheVariants as causes
+use Rattle.ltx_model.specs.declared.commands.Command.{Command}
+use Rattle.ltx_model.specs.declared.commands.Command.TheVariants as commands
+use Rattle.ltx_model.specs.declared.commands.Verb.{Verb}
+use Rattle.ltx_script.specs.Lines.{◌>>=◌, words_of, is_word}
 use Rattle.ltx_script.specs.declared.refusal.Refusal.{Refusal}
 use Rattle.ltx_script.specs.declared.refusal.Refusal.TheVariants as refusals
 
@@ -13,3 +19,11 @@ Refuses (refusals.Cause cause) read = read ≡ Err cause
 abbrev pub Gives : {X Y : Type 0} → (X → Y) → Result X Refusal → Result Y Bad → Type 0
 Gives view (Ok x) read = read ≡ Ok (view x)
 Gives view (Err refusal) read = Refuses refusal read
+
+-- what this session asks, where it was read
+abbrev pub asked : ℕ → Result Verb Bad → Result Command Bad
+asked session read = read >>= (λ verb. Ok (commands.Ask session verb))
+
+-- the first cause of a line in which no command was read, where this one was found
+abbrev pub first_cause : List ℕ → Bad → Bad
+first_cause line cause = if list_all is_word (words_of line) then cause else causes.Words

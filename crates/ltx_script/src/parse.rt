@@ -6,8 +6,8 @@ ghost use Rattle.ltx_model.specs.declared.commands.Line.TheVariants.{Good};
 ghost use Rattle.ltx_model.specs.declared.commands.Bad.{Bad};
 ghost use Rattle.ltx_script.specs.Commands.{IsCommand, command_text};
 ghost use Rattle.ltx_script.specs.Causes.{IsCause};
-ghost use Rattle.ltx_script.specs.Lines.{words_of, words_after, ask_at, command_at, said_at, most_bytes, reading, line_of, SaysBad, IfGood, IfBad};
-ghost use Rattle.ltx_script.specs.Readers.{Gives};
+ghost use Rattle.ltx_script.specs.Lines.{words_after, ask_at, command_at, most_bytes, line_of, SaysBad, IfGood, IfBad};
+ghost use Rattle.ltx_script.specs.Readers.{Gives, first_cause};
 
 use crate::arguments::session_of;
 use crate::cuts::{alone, are_words, cut};
@@ -22,48 +22,56 @@ const MOST_BYTES: usize = 4_096;
 
 /// What a session asks.
 #[tactic(auto, unfolding(crate::specs::Lines::ask_at))]
-fn ask_of(alloc: Global, word: &[u8], rest: Option<&[u8]>) -> Result<Command, Refusal>
-    ensures { Gives (λ command. command) result (ask_at word.now (words_after (option_copied rest.entry))) }
+fn ask_of(
+    alloc: Global,
+    word: &[u8],
+    rest: Option<&[u8]>,
+    command: &mut Command,
+) -> Result<(), Refusal>
+    ensures { Gives (λ _. command.new) result (ask_at word.now (words_after (option_copied rest.entry))) }
 {
     let session = session_of(word)?;
-    let verb = asked_of(alloc, rest)?;
-    Ok(Command::Ask(session, verb))
+    asked_of(alloc, session, rest, command)
 }
 
-/// The command with these words.
+/// The command with these words, which is written in place. After a refusal it may be any command.
 #[tactic(auto, unfolding(crate::specs::Lines::command_at))]
-fn command_of(alloc: Global, word: &[u8], rest: Option<&[u8]>) -> Result<Command, Refusal>
-    ensures { Gives (λ command. command) result (command_at word.now (words_after (option_copied rest.entry))) }
+fn command_of(
+    alloc: Global,
+    word: &[u8],
+    rest: Option<&[u8]>,
+    command: &mut Command,
+) -> Result<(), Refusal>
+    ensures { Gives (λ _. command.new) result (command_at word.now (words_after (option_copied rest.entry))) }
 {
     if word == b"epoch".as_slice() {
-        return alone(rest, Command::Epoch);
+        alone(rest, ())?;
+        *command = Command::Epoch;
+        return Ok(());
     }
     if word == b"flush".as_slice() {
-        return alone(rest, Command::Flush);
+        alone(rest, ())?;
+        *command = Command::Flush;
+        return Ok(());
     }
     if word == b"prune".as_slice() {
-        return alone(rest, Command::Prune);
+        alone(rest, ())?;
+        *command = Command::Prune;
+        return Ok(());
     }
-    ask_of(alloc, word, rest)
+    ask_of(alloc, word, rest, command)
 }
 
-/// The command with this spelling, or the first cause why there is none.
-#[tactic(auto, unfolding(crate::specs::Lines::reading))]
-fn read(alloc: Global, line: &[u8]) -> Result<Command, Refusal>
-    ensures { Gives (λ command. command) result (reading line.now) }
+/// The first cause of a line in which no command was read: the cause found, unless the line is not words. What is read
+/// as a command is words, so a line is tested for them only here.
+#[inline(never)]
+fn first_cause(line: &[u8], cause: Bad) -> Bad
+    ensures { result ≡ first_cause line.now cause }
 {
-    if line.len() > MOST_BYTES {
-        return Err(Refusal::Cause(Bad::Long));
-    }
-    if !are_words(line) {
-        return Err(Refusal::Cause(Bad::Words));
-    }
-    let (word, rest) = cut(line, b' ');
-    command_of(alloc, word, rest)
+    if are_words(line) { cause } else { Bad::Words }
 }
 
 /// What a line says: the command with this spelling, or the first cause why there is none.
-#[tactic(auto, unfolding(crate::specs::Lines::line_of))]
 pub fn parse_line(alloc: Global, line: &[u8]) -> Result<Line, NoMemory>
     // What is read is spelt so.
     ensures found { IfOk result (λ read. IfGood read (λ command. IsCommand command × (line.now ≡ command_text command))) }
@@ -74,10 +82,16 @@ pub fn parse_line(alloc: Global, line: &[u8]) -> Result<Line, NoMemory>
     // The whole answer is a function of the bytes.
     ensures exact { IfOk result (λ read. read ≡ line_of line.now) }
 {
-    match read(alloc, line) {
-        Ok(command) => Ok(Line::Good(command)),
-        Err(Refusal::Cause(cause)) => Ok(Line::Bad(cause)),
+    if line.len() > MOST_BYTES {
+        return Ok(Line::Bad(Bad::Long));
+    }
+    let (word, rest) = cut(line, b' ');
+    // Any command, in whose place the one of the line is written.
+    let mut command = Command::Epoch;
+    match command_of(alloc, word, rest, &mut command) {
+        Ok(()) => Ok(Line::Good(command)),
         Err(Refusal::Memory) => Err(NoMemory),
+        Err(Refusal::Cause(cause)) => Ok(Line::Bad(first_cause(line, cause))),
     }
 }
 

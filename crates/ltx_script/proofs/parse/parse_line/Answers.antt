@@ -1,22 +1,21 @@
-use Rattle.std.proofs.Common.{sym, ap, ◌∙◌}
-use Rattle.ltx_script.specs.Lines.{line_from}
-use Rattle.ltx_script.proofs.Readings.{reading_is}
-use Rattle.ltx_script.proofs.Refused.{reading_cause}
-use Rattle.ltx_script.proofs.Spelt.{spelt_again}
+use Rattle.std.proofs.Common.{option_copied}
+use Rattle.ltx_script.specs.Lines.{words_after}
+use Rattle.ltx_script.proofs.Answered.{long_answer, good_answer, bad_answer}
 use Rattle.ltx_script.proofs.parse.parse_line.Goals as goal
 
-pub returns-in-Ok-clause-found : goal.returns-in-Ok-clause-found
-returns-in-Ok-clause-found c = let s = reading_is c.args.line.now c.in-Ok.command c.in-Ok.ensures in (s.fits, s.is)
+pub returns-then-line-gt-MOST_BYTES : goal.returns-then-line-gt-MOST_BYTES
+returns-then-line-gt-MOST_BYTES c =
+    let a = long_answer c.args.line.now c.if-line-gt-MOST_BYTES.true in
+    record { found = a.found; cause = a.cause; again = a.again; exact = a.exact }
 
-pub returns-in-Ok-clause-again : goal.returns-in-Ok-clause-again
-returns-in-Ok-clause-again c = λ command fits is. ap line_from (sym c.in-Ok.ensures ∙ spelt_again c.args.line.now command fits is)
+pub returns-in-Ok : goal.returns-in-Ok
+returns-in-Ok c =
+    let a = good_answer c.args.line.now c.cut.result.0.now (words_after (option_copied c.cut.result.1)) c.command_of.new.command
+    c.if-line-gt-MOST_BYTES.false c.cut.ensures.parts c.in-Ok.ensures in
+    record { found = a.found; cause = a.cause; again = a.again; exact = a.exact }
 
-pub returns-in-Err-Cause-clause-again : goal.returns-in-Err-Cause-clause-again
-returns-in-Err-Cause-clause-again c =
-    let cause = rw c.in-Err-Cause.field-0-is at c.in-Err-Cause.ensures in
-    λ command fits is. ap line_from (sym cause ∙ spelt_again c.args.line.now command fits is)
-
-pub returns-in-Err-Cause-clause-cause : goal.returns-in-Err-Cause-clause-cause
-returns-in-Err-Cause-clause-cause c =
-    let cause = rw c.in-Err-Cause.field-0-is at c.in-Err-Cause.ensures in
-    reading_cause c.args.line.now c.in-Err-Cause.cause cause
+pub returns : goal.returns
+returns c =
+    let a = bad_answer c.args.line.now c.cut.result.0.now (words_after (option_copied c.cut.result.1)) c.in-Err-Cause.cause c.first_cause.result
+    c.if-line-gt-MOST_BYTES.false c.cut.ensures.parts (rw c.in-Err-Cause.field-0-is at c.in-Err-Cause.ensures) c.first_cause.ensures in
+    record { found = a.found; cause = a.cause; again = a.again; exact = a.exact }
