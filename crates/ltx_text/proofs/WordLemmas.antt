@@ -1,11 +1,12 @@
 -- No spelling of a byte begins another, so a text is the spellings of one byte string at most.
-use Rattle.std.proofs.Common.{◌≡◌, ◌≢◌, ℕ, ◌/◌, ◌%◌, ◌<◌, ◌≤◌, true, false, List, [], ◌∷◌, ◌++◌, length, take, drop, refl, sym, ap, subst, ◌∙◌, append_assoc, arith, inl, inr}
+use Rattle.std.proofs.Common.{◌≡◌, ◌≢◌, ℕ, ◌+◌, ◌-◌, Bool, ◌&&◌, get_or, ◌/◌, ◌%◌, ◌<◌, ◌≤◌, true, false, List, [], ◌∷◌, ◌++◌, length, take, drop, refl, sym, ap, ap₂, subst, ◌∙◌, append_assoc, arith, inl, inr}
 use Rattle.std.specs.Prelude.{IsTrue}
-use Rattle.std.specs.List.{AllByRecursion, AllPass}
+use Rattle.std.specs.List.{AllByRecursion, AllPass, list_all}
+use Rattle.std.proofs.lemmas.List.Sums.{AllPass-from_list_all}
 use Rattle.std.proofs.lemmas.List.Elements.{All-drop, All-from_recursion, All-head, recursion_from_All}
-use Rattle.std.proofs.lemmas.List.{drop_at, length-append, take-append-drop, take-append-le, take_all}
-use Rattle.std.proofs.Math.Seq.{take-append_seam}
-use Rattle.std.proofs.lemmas.Grind.{flat_map-append}
+use Rattle.std.proofs.lemmas.List.Folds.{list_all-append}
+use Rattle.std.proofs.lemmas.List.{drop_all, drop_at, drop_more, length-append, length-drop, length-take, take-append-drop, take-append-le}
+use Rattle.std.proofs.Math.Seq.{take-add, take-append_seam}
 use Rattle.std.proofs.lemmas.Bool.{both_ways, cases_Bool}
 use lib.Pointwise.{pointwise}
 use lib.Dec.{eqb}
@@ -160,8 +161,50 @@ plain_by_recursion (x ∷ xs) plain = rw (plain_spelling x plain.0, plain_by_rec
 pub plain_spellings : (xs : List ℕ) → AllPass is_plain xs → spellings xs ≡ xs
 plain_spellings xs plain = plain_by_recursion xs (recursion_from_All (λ b. is_plain b ≡ true) xs plain)
 
+-- they are their own word
+pub plain_word : (bytes : List ℕ) → 0 < length bytes → list_all is_plain bytes ≡ true → word_of bytes ≡ bytes
+plain_word [] some plain = absurd (omega (arith, some))
+plain_word (b ∷ bytes) some plain = plain_spellings (b ∷ bytes) (AllPass-from_list_all is_plain (b ∷ bytes) plain)
+
 pub plain_begins : (b : ℕ) (rest text : List ℕ) → is_plain b ≡ true → text ≡ b ∷ rest → text ≡ byte_spelling b ++ rest
 plain_begins b rest text plain is = rw (plain_spelling b plain) is
+
+-- ---- bytes that are tested at both ends at once
+
+joined_tests : (a b c : Bool) → ((a && b) && (b && c)) ≡ (a && (b && c))
+joined_tests false b c = refl
+joined_tests true false c = refl
+joined_tests true true c = refl
+
+-- a front and an end that overlap tell of all
+all_overlapping : (p : ℕ → Bool) (m k : ℕ) (xs : List ℕ) → list_all p (take (m + k) xs ++ drop m xs) ≡ list_all p xs
+all_overlapping p m k xs =
+    let whole = list_all-append p (take (m + k) xs) (drop m xs) in
+    let first = ap (list_all p) (take-add m k xs) ∙ list_all-append p (take m xs) (take k (drop m xs)) in
+    let last = ap (list_all p) (sym (take-append-drop k (drop m xs))) ∙ list_all-append p (take k (drop m xs)) (drop k (drop m xs)) in
+    let all = ap (list_all p) (sym (take-append-drop m xs)) ∙ list_all-append p (take m xs) (drop m xs) in
+    let same = joined_tests (list_all p (take m xs)) (list_all p (take k (drop m xs))) (list_all p (drop k (drop m xs))) in
+    cc
+
+four_cells : (xs : List ℕ) → length xs ≡ 4 → get_or xs 0 0 ∷ get_or xs 1 0 ∷ get_or xs 2 0 ∷ get_or xs 3 0 ∷ [] ≡ xs
+four_cells xs four =
+    let one = drop_more xs 0 0 (omega (arith, four)) in
+    let two = drop_more xs 1 0 (omega (arith, four)) in
+    let three = drop_more xs 2 0 (omega (arith, four)) in
+    let last = drop_more xs 3 0 (omega (arith, four)) in
+    let end = drop_all 4 xs (omega (arith, four)) in
+    cc
+
+-- the first four and the last four tell of fewer than eight
+pub ends_tell : (p : ℕ → Bool) (x y bytes : List ℕ) → x ≡ take 4 bytes → y ≡ drop (length bytes - 4) bytes → 4 ≤ length bytes → length bytes < 8
+    → list_all p (get_or x 0 0 ∷ get_or x 1 0 ∷ get_or x 2 0 ∷ get_or x 3 0 ∷ get_or y 0 0 ∷ get_or y 1 0 ∷ get_or y 2 0 ∷ get_or y 3 0 ∷ []) ≡ list_all p bytes
+ends_tell p x y bytes first last some few =
+    let four : length x ≡ 4 = omega (arith, ap length first, length-take 4 bytes, some) in
+    let others : length y ≡ 4 = omega (arith, ap length last, length-drop (length bytes - 4) bytes, some) in
+    let count : 4 ≡ length bytes - 4 + (8 - length bytes) = omega (arith, some, few) in
+    ap (list_all p) (ap₂ (λ (s t : List ℕ). s ++ t) (four_cells x four) (four_cells y others)
+    ∙ ap₂ (λ (s t : List ℕ). s ++ t) (first ∙ ap (λ (n : ℕ). take n bytes) count) last)
+    ∙ all_overlapping p (length bytes - 4) (8 - length bytes) bytes
 
 -- ---- the parts of an escape
 
@@ -187,19 +230,11 @@ is_escape b first after rest text begins escaped same =
 
 -- ---- what stands in front stays there
 
-pub front_kept : (old front base more mid new : List ℕ) → base ≡ old ++ front → mid ≡ base ++ more → take (length mid) new ≡ mid → take (length old) new ≡ old
-front_kept old front base more mid new one two kept =
-    let whole : mid ≡ old ++ (front ++ more) = two ∙ ap (λ (t : List ℕ). t ++ more) one ∙ append_assoc old front more in
-    let longer : length old ≤ length mid = omega (arith, ap length whole, length-append old (front ++ more)) in
+pub front_kept : (old more mid new : List ℕ) → mid ≡ old ++ more → take (length mid) new ≡ mid → take (length old) new ≡ old
+front_kept old more mid new is kept =
+    let longer : length old ≤ length mid = omega (arith, ap length is, length-append old more) in
     let split : new ≡ mid ++ drop (length mid) new = sym (take-append-drop (length mid) new) ∙ ap (λ (t : List ℕ). t ++ drop (length mid) new) kept in
-    ap (take (length old)) split ∙ take-append-le (length old) mid (drop (length mid) new) longer ∙ ap (take (length old)) whole ∙ take-append_seam old (front ++ more)
-
--- a word, from the bytes that stand for themselves at its front and the spellings of the others
-pub word_by_parts : (old bytes front rest all : List ℕ) (n : ℕ) → 0 < length bytes → bytes ≡ front ++ rest → AllPass is_plain front → length rest ≤ n → all ≡ old ++ (front ++ spellings (take n rest)) → all ≡ old ++ word_of bytes
-word_by_parts old [] front rest all n some parts plain whole is = absurd (omega (arith, some))
-word_by_parts old (b ∷ bytes) front rest all n some parts plain whole is =
-    is ∙ ap (λ (t : List ℕ). old ++ t) (ap (λ (t : List ℕ). front ++ spellings t) (take_all n rest whole) ∙ ap (λ (t : List ℕ). t ++ spellings rest) (sym (plain_spellings front plain))
-    ∙ sym (flat_map-append byte_spelling front rest) ∙ ap spellings (sym parts))
+    ap (take (length old)) split ∙ take-append-le (length old) mid (drop (length mid) new) longer ∙ ap (take (length old)) is ∙ take-append_seam old more
 
 -- the words other than `%` are spellings
 pub word_of_others : (word bytes : List ℕ) → word ≢ 37 ∷ [] → word ≡ word_of bytes → word ≡ spellings bytes

@@ -54,12 +54,27 @@ mod tests {
         Ok(())
     }
 
+    /// Appends the line that is lent, where there is one, and lets it go.
+    fn tell_lent(lines: &mut Lines, out: &mut Vec<u8>) -> Result<(), NoMemory> {
+        let Some(line) = lines.peek() else {
+            return Ok(());
+        };
+        let length = line.len();
+        out.extend_from_slice(line)?;
+        lines.skip_line(length);
+        out.push(b';')?;
+        Ok(())
+    }
+
     #[test]
     fn words_and_decimals(rt: HostRuntime) -> Result<(), Fail> {
         let alloc = rt.alloc();
-        let cases: [(&[u8], &[u8]); 4] = [
+        let cases: [(&[u8], &[u8]); 7] = [
             (b"", b"%"),
             (b"a b", b"a%20b"),
+            (b"k00123", b"k00123"),
+            (b"k0000123456", b"k0000123456"),
+            (b"k0000123 k00 ", b"k0000123%20k00%20"),
             (b"100%", b"100%25"),
             (b"\xff\x7f~!\n", b"%FF%7F~!%0A"),
         ];
@@ -107,16 +122,20 @@ mod tests {
     #[test]
     fn the_limit(rt: HostRuntime) -> Result<(), Fail> {
         let alloc = rt.alloc();
-        let cases: [(u64, &[u8]); 2] = [(10, b"epoch,(much),(much),"), (12, b"epoch,epoch,(end),")];
+        let cases: [(u64, &[u8]); 2] = [
+            (10, b"epoch,(much),(much),"),
+            (12, b"epoch,flush;(end),(end),"),
+        ];
         for (limit, told) in cases {
             let mut source = MemSource::new(
-                Vec::from_slice(alloc, b"epoch\nepoch\n")?,
+                Vec::from_slice(alloc, b"epoch\nflush\n")?,
                 Vec::new(alloc),
             );
             let mut lines = Lines::new(alloc, limit)?;
             let mut out = Vec::new(alloc);
             tell(&mut lines, &mut source, &mut out)?;
-            assert_eq!(rt; lines.holds_line(), limit == 12);
+            assert_eq!(rt; lines.peek().is_some(), limit == 12);
+            tell_lent(&mut lines, &mut out)?;
             for _ in 0..2 {
                 tell(&mut lines, &mut source, &mut out)?;
             }

@@ -1,7 +1,7 @@
 //! The lines of a source, one at a time, for whoever runs a script.
 //! The bytes are taken in blocks, a read is made only where no whole line is held, and the held bytes
-//! outlive a fault.
-ghost use Rattle.std.specs.Prelude.{◌≡◌, ℕ, List, Option, Some, ◌+◌, ◌-◌, ◌≤◌, ◌<◌, ◌↔◌, [], ◌∷◌, ◌++◌, length, take, drop, IfOk, OnOk, OnErr, IsErrOf, IsTrue, MatchBool, MatchOption};
+//! outlive a fault. A line that is held whole is lent to whoever wants no copy.
+ghost use Rattle.std.specs.Prelude.{◌≡◌, ℕ, List, Option, Some, ◌+◌, ◌-◌, ◌≤◌, ◌<◌, ◌↔◌, [], ◌∷◌, ◌++◌, length, take, drop, IfOk, IfSome, IfNone, OnOk, OnErr, IsErrOf, MatchBool, MatchOption};
 ghost use Rattle.std.specs.Io.KnownBytes.{IsAtEnd};
 ghost use Rattle.ltx_outside.specs.Faults.{Rose};
 ghost use Rattle.ltx_text.specs.Lines.{Cuts, IsFirstFeed, LinesState, NoFeedAhead, feeds, fresh, piece_of, pieces_of, to_go};
@@ -90,11 +90,28 @@ impl Lines {
         }
     }
 
-    /// Whether a whole line is held, so that the next call gives it and reads nothing.
-    pub fn holds_line(&self) -> bool
-        ensures { IsTrue result ↔ (0 < feeds self.now.held) }
+    /// The next line, lent, where it is held whole: no read is made. It may be of any length. None where the
+    /// next piece wants a read, or the limit was passed.
+    pub fn peek(&self) -> Option<&[u8]>
+        ensures line { IfSome result (λ line. (self.now.taken ≤ self.now.limit)
+            × IsFirstFeed self.now.held (length line.now) × (line.now ≡ take (length line.now) self.now.held)) }
+        ensures none { IfNone result (self.now.taken ≤ self.now.limit → feeds self.now.held ≡ 0) }
     {
-        first_feed(self.block.held()).is_some()
+        if self.past {
+            return None;
+        }
+        let held = self.block.held();
+        let at = first_feed(held)?;
+        let (line, _) = held.split_at(at);
+        Some(line)
+    }
+
+    /// Lets the line go that `peek` lends, with its line feed.
+    pub fn skip_line(&mut self, length: usize)
+        requires { IsFirstFeed self.old.held length }
+        ensures { self.new ≡ record self.old { held = drop (length + 1) self.old.held } }
+    {
+        self.block.skip(length + 1);
     }
 
     /// Takes bytes until a line is whole or the source is at its end, and gives what is then the next piece.
@@ -212,7 +229,7 @@ impl Lines {
         ensures fault { OnErr result (IsErrOf result TextFault.NoMemory) }
     {
         let piece = piece_of(self.alloc, &self.block.held()[..at])?;
-        self.block.skip(at + 1);
+        self.skip_line(at);
         Ok(piece)
     }
 }
@@ -225,6 +242,10 @@ pub fn pieces_come_in_order()
         (first second : List (Option (List ℕ))) →
         Cuts a b left_a left_b first → Cuts b c left_b left_c second →
         Cuts a c left_a left_c (first ++ second) }
+
+    // A line that was lent and let go was given as a piece.
+    ensures lent { (state : LinesState) (left : Option (List ℕ)) (at : ℕ) → IsFirstFeed state.held at →
+        Cuts state (record state { held = drop (at + 1) state.held }) left left (piece_of (take at state.held) ∷ []) }
 
     // A loop over the calls ends: this number falls at each piece, and never rises.
     ensures fewer { (old new : LinesState) (left_old left_new : Option (List ℕ)) (gave : List (Option (List ℕ))) →

@@ -2,7 +2,7 @@
 //! A visible byte other than `%` stands for itself, every other byte is `%HH` in upper case, and the
 //! empty string is `%`.
 ghost use Rattle.std.specs.Prelude.{◌≡◌, ◌≢◌, ◌++◌, ◌≤◌, ◌<◌, ◌/◌, ◌%◌, ℕ, List, length, take, OnOk, OnErr, IfOk, IfSome, IfNone, IsFalse, IsSomeAnd};
-ghost use Rattle.std.specs.List.{AllPass};
+ghost use Rattle.std.specs.List.{list_all};
 ghost use Rattle.ltx_text.specs.Words.{AreBytes, AreVisible, byte_spelling, hex_digit, is_plain, spellings, word_of};
 
 use ltx_model::memory::NoMemory;
@@ -39,9 +39,19 @@ fn put_word(bytes: &[u8], out: &mut Vec<u8>) -> Result<(), NoMemory>
         out.push(b'%')?;
         return Ok(());
     }
-    let (front, rest) = bytes.split_at(plain_front(bytes));
-    out.extend_from_slice(front)?;
-    for &byte in rest {
+    if are_plain(bytes) {
+        out.extend_from_slice(bytes)?;
+        return Ok(());
+    }
+    put_spellings(bytes, out)
+}
+
+/// Appends the spellings of bytes, one after the other, or a front of them where memory is wanting.
+fn put_spellings(bytes: &[u8], out: &mut Vec<u8>) -> Result<(), NoMemory>
+    ensures ok { OnOk result (out.new.items ≡ out.old.items ++ spellings bytes.now) }
+    ensures front { take (length out.old.items) out.new.items ≡ out.old.items }
+{
+    for &byte in bytes {
         put_byte(byte, out)?;
     }
     Ok(())
@@ -60,22 +70,54 @@ fn put_byte(byte: u8, out: &mut Vec<u8>) -> Result<(), NoMemory>
     Ok(())
 }
 
-/// Whether the byte stands for itself in a word.
+/// Whether all bytes stand for themselves in a word. They are tested eight at a time.
+fn are_plain(bytes: &[u8]) -> bool
+    ensures { result ≡ list_all is_plain bytes.now }
+{
+    let mut rest = bytes;
+    while let Some((eight, past)) = rest.split_first_chunk::<8>() {
+        if !are_eight_plain(eight) {
+            return false;
+        }
+        rest = past;
+    }
+    are_few_plain(rest)
+}
+
+/// Whether bytes that are fewer than eight all stand for themselves. Where there are four or more, the first
+/// four and the last four are tested at once, though some are among both.
+fn are_few_plain(bytes: &[u8]) -> bool
+    requires { length bytes.now < 8 }
+    ensures { result ≡ list_all is_plain bytes.now }
+{
+    if let Some(x) = bytes.first_chunk::<4>()
+        && let Some(y) = bytes.last_chunk::<4>()
+    {
+        return are_eight_plain(&[x[0], x[1], x[2], x[3], y[0], y[1], y[2], y[3]]);
+    }
+    bytes.iter().all(|b| is_plain(*b))
+}
+
+/// Whether eight bytes all stand for themselves. They are joined by `&` and not by `&&`, so that they are
+/// tested at once.
+fn are_eight_plain(x: &[u8; 8]) -> bool
+    ensures { result ≡ list_all is_plain x.now }
+{
+    is_plain(x[0])
+        & is_plain(x[1])
+        & is_plain(x[2])
+        & is_plain(x[3])
+        & is_plain(x[4])
+        & is_plain(x[5])
+        & is_plain(x[6])
+        & is_plain(x[7])
+}
+
+/// Whether the byte stands for itself.
 fn is_plain(byte: u8) -> bool
     ensures { result ≡ is_plain byte }
 {
-    byte.is_ascii_graphic() && byte != b'%'
-}
-
-/// How many bytes at the front stand for themselves.
-fn plain_front(bytes: &[u8]) -> usize
-    ensures within { result ≤ length bytes.now }
-    ensures plain { AllPass is_plain (take result bytes.now) }
-{
-    bytes
-        .iter()
-        .position(|b| !is_plain(*b))
-        .unwrap_or(bytes.len())
+    byte.is_ascii_graphic() & (byte != b'%')
 }
 
 /// The upper-case hexadecimal digit of a number below 16.
@@ -95,11 +137,14 @@ pub fn decode_word(alloc: Global, word: &[u8]) -> Result<Option<Vec<u8>>, NoMemo
     ensures again { (bytes : List ℕ) → AreBytes bytes → word.now ≡ word_of bytes →
         IfOk result (λ found. IsSomeAnd found (λ read. read.items ≡ bytes)) }
 {
-    if word == b"%".as_slice() {
-        return Ok(Some(Vec::new(alloc)));
-    }
     if word.is_empty() {
         return Ok(None);
+    }
+    if are_plain(word) {
+        return Ok(Some(Vec::from_slice(alloc, word)?));
+    }
+    if word == b"%".as_slice() {
+        return Ok(Some(Vec::new(alloc)));
     }
     read_spellings(alloc, word)
 }
@@ -110,8 +155,8 @@ fn read_spellings(alloc: Global, text: &[u8]) -> Result<Option<Vec<u8>>, NoMemor
     ensures none { IfOk result (λ found. IfNone found ((bytes : List ℕ) → AreBytes bytes →
         text.now ≢ spellings bytes)) }
 {
-    let (front, mut rest) = text.split_at(plain_front(text));
-    let mut bytes = Vec::from_slice(alloc, front)?;
+    let mut bytes = Vec::new(alloc);
+    let mut rest = text;
     while !rest.is_empty() {
         let Some((byte, after)) = next_byte(rest) else {
             return Ok(None);

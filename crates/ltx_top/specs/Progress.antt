@@ -1,18 +1,20 @@
 -- A run under way: what was taken, answered and printed so far.
-use Rattle.std.specs.Prelude.{◌≡◌, ℕ, ◌≤◌, Bool, List, ◌++◌, map, Option, IfSome, ◌<◌}
+use Rattle.std.specs.Prelude.{◌≡◌, ℕ, ◌≤◌, Bool, List, [], ◌∷◌, ◌++◌, map, Option, IfSome, ◌<◌}
 use Rattle.std.specs.Io.KnownBytes.{Appends}
 use Rattle.ltx_model.specs.declared.commands.Line.{Line}
 use Rattle.ltx_model.specs.declared.replies.Entry.{Entry}
-use Rattle.ltx_model.specs.Answers.{IsLegalWith}
+use Rattle.ltx_model.specs.declared.replies.Reply.{Reply}
+use Rattle.ltx_model.specs.Histories.{state}
+use Rattle.ltx_model.specs.Answers.{IsLegalWith, staged}
 use Rattle.ltx_core.specs.Built.{built}
 use Rattle.ltx_core.specs.Views.{CoreView}
 use Rattle.ltx_core.specs.Stands.{StandsFor}
 use Rattle.ltx_text.specs.Lines.{LinesState, Cuts, fresh}
-use Rattle.ltx_top.specs.Transcripts.{empty_base, line_of_piece, history_text}
+use Rattle.ltx_top.specs.Transcripts.{empty_base, entry_text, line_of_piece, history_text}
 use Rattle.ltx_outside.specs.Faults.{Rose}
 use Rattle.ltx_top.specs.declared.status.Stop.{Stop}
 use Rattle.ltx_top.specs.declared.status.Stop.TheVariants as stops
-use Rattle.ltx_top.specs.Runs.{most_of_script, took, has_bad, Cut}
+use Rattle.ltx_top.specs.Runs.{most_of_script, took, is_bad, has_bad, Cut}
 
 -- what a source has left and what a sink has
 pub record Devices : Type 0 where
@@ -55,6 +57,16 @@ pub record Halted (start now : Devices) (rest : List ℕ) : Type 0 where
   pub out : Appends start.written now.written written
   pub whole : written ++ rest ≡ history_text history
   pub within : reader.taken ≤ most_of_script
+
+-- A line was answered by its reply: the core stands for one entry more, whose text is behind the text before, and it is known
+-- whether the reply is `bad`.
+pub record Served (old new : CoreView) (line : Line) (before after : List ℕ) (bad : Bool) : Type 0 where
+  pub reply : Reply
+  pub told : (history : List Entry) → IsLegalWith built empty_base history → StandsFor old empty_base history → reply ≡ staged built (state empty_base history) line
+  pub stands : (history : List Entry) → IsLegalWith built empty_base history → StandsFor old empty_base history
+      → StandsFor new empty_base (history ++ record { line = line; reply = reply } ∷ [])
+  pub text : after ≡ before ++ entry_text (record { line = line; reply = reply })
+  pub tells : bad ≡ is_bad reply
 
 -- the core stands for some legal history
 pub record IsUnderWay (core : CoreView) : Type 0 where

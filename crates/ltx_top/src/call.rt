@@ -24,7 +24,7 @@ fn run_script<S: Source, K: Sink>(alloc: Global, source: &mut S, sink: &mut K) -
         Err(_) => Err(Stop::NoMemory),
         Ok(mut session) => match session.work(source, sink) {
             Err(stop) => Err(stop),
-            Ok(()) => Ok(session.malformed),
+            Ok(()) => Ok(session.responder.malformed),
         },
     }
 }

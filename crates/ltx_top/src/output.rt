@@ -3,12 +3,10 @@
 ghost use Rattle.std.specs.Prelude.{◌≡◌, ◌≤◌, ℕ, List, [], ◌++◌, take, OnOk, OnErr, IfErr};
 ghost use Rattle.std.specs.Io.KnownBytes.{Appends};
 ghost use Rattle.ltx_outside.specs.Faults.{Rose};
-ghost use Rattle.ltx_text.specs.Lines.{feeds};
 ghost use Rattle.ltx_top.specs.declared.status.Stop.TheVariants as stops;
 
 use crate::status::Stop;
 use ltx_outside::{Sink, write_all};
-use ltx_text::lines::Lines;
 
 /// How much text is gathered before it is handed to the sink.
 const MOST_GATHERED: usize = 65_536;
@@ -28,21 +26,6 @@ pub(crate) fn hand_over<K: Sink>(text: &mut Vec<u8>, sink: &mut K) -> Result<(),
         }
         Err(_) => Err(Stop::Sink),
     }
-}
-
-/// Hands the gathered text over where the next line may want a read.
-pub(crate) fn make_way<K: Sink>(lines: &Lines, text: &mut Vec<u8>, sink: &mut K) -> Result<(), Stop>
-    ensures whole { OnOk result ((done : List ℕ) × Appends (K.written sink.old) (K.written sink.new) done × (done ++ text.new.items ≡ text.old.items)) }
-    ensures ready { OnOk result (feeds lines.now.held ≡ 0 → text.new.items ≡ []) }
-    ensures front { (n : ℕ) × Appends (K.written sink.old) (K.written sink.new) (take n text.old.items) }
-    ensures cause { IfErr result (λ stop. stop ≡ stops.Sink) }
-    ensures rose { OnErr result (Rose (K.faults sink.old) (K.faults sink.new)) }
-    ensures counted { K.faults sink.old ≤ K.faults sink.new }
-{
-    if lines.holds_line() {
-        return Ok(());
-    }
-    hand_over(text, sink)
 }
 
 /// Hands the gathered text over where there is much of it.

@@ -1,6 +1,6 @@
-//! One turn of a run: a line is taken, answered, and gathered as text.
+//! The steps of a turn: a piece is taken, and a line is answered and gathered as text.
 
-ghost use Rattle.std.specs.Prelude.{◌≡◌, ◌||◌, ◌≤◌, ◌<◌, ◌+◌, ℕ, List, Option, None, [], ◌∷◌, ◌++◌, map, IfOk, IfSome, OnErr, IsErrOf};
+ghost use Rattle.std.specs.Prelude.{◌≡◌, ◌≤◌, ◌<◌, ◌+◌, ℕ, List, Option, [], ◌∷◌, ◌++◌, Ok, IfOk, OnErr, IsErrOf};
 ghost use Rattle.std.specs.Io.KnownBytes.{IsAtEnd};
 ghost use Rattle.ltx_model.specs.declared.replies.Entry.{Entry};
 ghost use Rattle.ltx_model.specs.Histories.{state};
@@ -9,82 +9,69 @@ ghost use Rattle.ltx_outside.specs.Faults.{Rose};
 ghost use Rattle.ltx_core.specs.Built.{built};
 ghost use Rattle.ltx_core.specs.Stands.{StandsFor};
 ghost use Rattle.ltx_text.specs.Lines.{Cuts, NoFeedAhead, feeds};
-ghost use Rattle.ltx_top.specs.Transcripts.{empty_base, entry_text, line_of_piece};
+ghost use Rattle.ltx_text.specs.Pieces.{OnEnd, given};
+ghost use Rattle.ltx_top.specs.Transcripts.{empty_base, entry_text};
+ghost use Rattle.ltx_top.specs.Progress.{IsUnderWay, Served};
 ghost use Rattle.ltx_top.specs.Runs.{is_bad};
-ghost use Rattle.ltx_top.specs.Progress.{IsUnderWay};
-ghost use Rattle.ltx_top.specs.Spellings.{HasSpelling, line_in};
+ghost use Rattle.ltx_top.specs.Spellings.{IsSpelt};
 ghost use Rattle.ltx_top.specs.declared.status.Stop.TheVariants as stops;
 
 use crate::answer::answer;
 use crate::entries::put_entry;
-use crate::heard::Heard;
 use crate::status::Stop;
 use ltx_core::Core;
-use ltx_model::commands::{Bad, Line};
+use ltx_model::commands::Line;
 use ltx_model::memory::NoMemory;
 use ltx_model::replies::Reply;
 use ltx_outside::Source;
-use ltx_script::parse::parse_line;
 use ltx_text::lines::Lines;
 use ltx_text::piece::{Piece, TextFault};
-use std::alloc::Global;
 
-/// Takes the next line of the script. None at its end.
-pub(crate) fn next_line<S: Source>(
-    alloc: Global,
-    lines: &mut Lines,
-    source: &mut S,
-) -> Result<Option<Heard>, Stop>
-    ensures gave { IfOk result (λ line. (gave : List (Option (List ℕ))) × Cuts lines.old lines.new (S.left source.old) (S.left source.new) gave × (map line_of_piece gave ≡ line_in line)) }
-    ensures spelt { IfOk result (λ line. IfSome line HasSpelling) }
-    ensures lost { IsErrOf result stops.NoMemory → (gave : List (Option (List ℕ))) × Cuts lines.old lines.new (S.left source.old) (S.left source.new) gave }
-    ensures failed { IsErrOf result stops.Source → Cuts lines.old lines.new (S.left source.old) (S.left source.new) [] × (feeds lines.old.held ≡ 0) × (feeds lines.new.held ≡ 0) }
+/// Takes the next piece of the script.
+pub(crate) fn next_piece<S: Source>(lines: &mut Lines, source: &mut S) -> Result<Piece, Stop>
+    ensures gave { IfOk result (λ piece. Cuts lines.old lines.new (S.left source.old) (S.left source.new) (given (Ok piece))) }
+    ensures lost { IsErrOf result stops.NoMemory → Cuts lines.old lines.new (S.left source.old) (S.left source.new) [] }
+    ensures failed { IsErrOf result stops.Source → Cuts lines.old lines.new (S.left source.old) (S.left source.new) [] × (feeds lines.new.held ≡ 0) }
     ensures passed { IsErrOf result stops.TooMuch → Cuts lines.old lines.new (S.left source.old) (S.left source.new) [] × (lines.new.limit < lines.new.taken) }
     ensures below { IsErrOf result stops.TooMuch → lines.old.taken ≤ lines.old.limit → (feeds lines.old.held ≡ 0)
         × NoFeedAhead lines.old (S.left source.old) }
     ensures within { lines.new.limit < lines.new.taken → IsErrOf result stops.TooMuch }
     ensures other { IsErrOf result stops.Sink → ⊥ }
-    ensures ended { IfOk result (λ line. line ≡ None → (lines.new.held ≡ []) × IsAtEnd (S.left source.new)) }
+    ensures ended { IfOk result (λ piece. OnEnd (Ok piece) ((lines.new.held ≡ []) × IsAtEnd (S.left source.new))) }
     ensures limit { lines.new.limit ≡ lines.old.limit }
     ensures least { lines.new.taken ≤ lines.new.limit + 1 }
     ensures rose { IsErrOf result stops.Source → Rose (S.faults source.old) (S.faults source.new) }
     ensures counted { S.faults source.old ≤ S.faults source.new }
 {
     match lines.next(source) {
-        Ok(Piece::Line(bytes)) => {
-            let line = parse_line(alloc, &bytes)?;
-            Ok(Some(Heard { line, bytes }))
-        }
-        Ok(Piece::TooLong) => Ok(Some(Heard {
-            line: Line::Bad(Bad::Long),
-            bytes: Vec::new(alloc),
-        })),
-        Ok(Piece::End) => Ok(None),
+        Ok(piece) => Ok(piece),
         Err(TextFault::ReadFault) => Err(Stop::Source),
         Err(TextFault::TooMuch) => Err(Stop::TooMuch),
         Err(TextFault::NoMemory) => Err(Stop::NoMemory),
     }
 }
 
-/// Answers a line, and gathers its entry. After want of memory the gathered text is as before.
-pub(crate) fn serve(core: &mut Core, heard: &Heard, text: &mut Vec<u8>) -> Result<Reply, NoMemory>
+/// Answers a line, whose command these bytes spell, and gathers its entry. True where the reply is `bad`. After want of
+/// memory the gathered text is as before.
+pub(crate) fn serve(
+    core: &mut Core,
+    line: &Line,
+    bytes: &[u8],
+    text: &mut Vec<u8>,
+) -> Result<bool, NoMemory>
     requires under_way { IsUnderWay core.old }
-    requires spelt { HasSpelling heard.now }
-    ensures reply { IfOk result (λ reply. (history : List Entry) → IsLegalWith built empty_base history → StandsFor core.old empty_base history
-        → reply ≡ staged built (state empty_base history) heard.now.line) }
-    ensures stands { IfOk result (λ reply. (history : List Entry) → IsLegalWith built empty_base history → StandsFor core.old empty_base history
-        → StandsFor core.new empty_base (history ++ record { line = heard.now.line; reply = reply } ∷ [])) }
-    ensures text { IfOk result (λ reply. text.new.items ≡ text.old.items ++ entry_text (record { line = heard.now.line; reply = reply })) }
+    requires spelt { IsSpelt line.now bytes.now }
+    ensures served { IfOk result (λ bad. Served core.old core.new line.now text.old.items text.new.items bad) }
     ensures kept { OnErr result (text.new.items ≡ text.old.items) }
 {
-    let reply = answer(core, &heard.line)?;
-    put_entry(heard, &reply, text)?;
-    Ok(reply)
+    let reply = answer(core, line)?;
+    put_entry(line, bytes, &reply, text)?;
+    Ok(is_bad(&reply))
 }
 
-/// Whether some reply is `bad`, after this one.
-pub(crate) fn malformed_after(malformed: bool, reply: &Reply) -> bool
-    ensures { result ≡ (malformed || is_bad reply.now) }
+/// Whether the reply is `bad`.
+fn is_bad(reply: &Reply) -> bool
+    ensures { result ≡ is_bad reply.now }
 {
-    malformed || matches!(reply, Reply::Bad(_))
+    matches!(reply, Reply::Bad(_))
 }

@@ -1,13 +1,29 @@
-use Rattle.std.proofs.Common.{◌≡◌, ◌≢◌, ◌∷◌, [], ℕ, List, Result, Ok, Err, Option, Some, None, Vec, Global, IfOk, IfSome, IfNone, IsSomeAnd, ◌∙◌, sym, ap, arith, length, rules}
+use Rattle.std.proofs.Common.{◌≡◌, ◌≢◌, ◌∷◌, [], ◌<◌, ℕ, List, Result, Ok, Err, Option, Some, None, Vec, Global, IfOk, IfSome, IfNone, IsSomeAnd, ◌∙◌, sym, ap, arith, length, rules}
 use Rattle.ltx_model.specs.declared.memory.NoMemory.{NoMemory}
 use Rattle.ltx_text.specs.Words.{AreBytes, spellings, word_of}
-use Rattle.ltx_text.proofs.WordLemmas.{is_other, spellings_one, word_is_some, word_of_others, word_spelling_injective}
+use Rattle.ltx_text.proofs.WordLemmas.{is_other, plain_word, spellings_one, word_is_some, word_of_others, word_spelling_injective}
 use Rattle.ltx_text.proofs.words.decode_word.Goals as goal
 
 pub returns-then-is_empty-clause-none : goal.returns-then-is_empty-clause-none
 returns-then-is_empty-clause-none c =
     let none : length c.args.word.now ≡ 0 = search rules in
     λ bytes low same. omega (arith, none, ap length same, word_is_some bytes)
+
+pub returns-then-is_empty-clause-again : goal.returns-then-is_empty-clause-again
+returns-then-is_empty-clause-again c =
+    let none : length c.args.word.now ≡ 0 = search rules in
+    λ bytes low same. absurd (omega (arith, none, ap length same, word_is_some bytes))
+
+pub returns-then-are_plain-clause-found : goal.returns-then-are_plain-clause-found
+returns-then-are_plain-clause-found c =
+    let some : 0 < length c.args.word.now = search rules in
+    sym (plain_word c.args.word.now some (sym c.are_plain.ensures ∙ c.if-are_plain.true)) ∙ ap word_of (sym c.in_ok-from_slice.ensures.items)
+
+pub returns-then-are_plain-clause-again : goal.returns-then-are_plain-clause-again
+returns-then-are_plain-clause-again c =
+    let some : 0 < length c.args.word.now = search rules in
+    let own = plain_word c.args.word.now some (sym c.are_plain.ensures ∙ c.if-are_plain.true) in
+    λ bytes low is. word_spelling_injective _ bytes (ap word_of c.in_ok-from_slice.ensures.items ∙ own ∙ is)
 
 -- what is no spellings is no word, but for `%`
 none_of_word : (word : List ℕ) (r : Result (Option (Vec ℕ Global)) NoMemory) → word ≢ 37 ∷ []
@@ -27,11 +43,6 @@ returns-then-eq-clause-again c =
     let word : c.args.word.now ≡ 37 ∷ [] = search rules in
     let same : [] ≡ bytes = word_spelling_injective [] bytes (sym word ∙ is) in
     c.new.ensures.items ∙ same
-
-pub returns-then-is_empty-clause-again : goal.returns-then-is_empty-clause-again
-returns-then-is_empty-clause-again c =
-    let none : length c.args.word.now ≡ 0 = search rules in
-    λ bytes low same. absurd (omega (arith, none, ap length same, word_is_some bytes))
 
 again_of_word : (word : List ℕ) (r : Result (Option (Vec ℕ Global)) NoMemory) → word ≢ 37 ∷ []
     → IfOk r (λ found. IfSome found (λ read. word ≡ spellings read.items))

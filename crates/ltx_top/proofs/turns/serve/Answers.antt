@@ -10,10 +10,13 @@ use Rattle.ltx_top.proofs.turns.serve.Goals as goal
 pub put_entry-requires : goal.put_entry-requires
 put_entry-requires c =
     let h = c.requires.under_way in
-    record { spelt = c.requires.spelt; kept = subst (λ (r : Reply). IsReply r) (sym (c.in_ok-reply.ensures.reply empty_base h.history empty_sound h.legal h.stands)) (answers_print built empty_base h.history c.args.heard.now.line empty_sound h.legal) }
+    record { spelt = c.requires.spelt; kept = subst (λ (r : Reply). IsReply r) (sym (c.in_ok-reply.ensures.reply empty_base h.history empty_sound h.legal h.stands)) (answers_print built empty_base h.history c.args.line.now empty_sound h.legal) }
 
-pub returns-clause-reply : goal.returns-clause-reply
-returns-clause-reply c = λ history legal stands. c.in_ok-reply.ensures.reply empty_base history empty_sound legal stands
-
-pub returns-clause-stands : goal.returns-clause-stands
-returns-clause-stands c = λ history legal stands. c.in_ok-reply.ensures.stands empty_base history empty_sound legal stands
+pub returns-clause-served : goal.returns-clause-served
+returns-clause-served c = record {
+  reply = c.in_ok-reply.reply;
+  told = λ history legal stands. c.in_ok-reply.ensures.reply empty_base history empty_sound legal stands;
+  stands = λ history legal stands. c.in_ok-reply.ensures.stands empty_base history empty_sound legal stands;
+  text = c.in_ok-put_entry.ensures.ok;
+  tells = c.is_bad.ensures;
+}

@@ -9,7 +9,7 @@ pub returns-in-Ok-clause-ran : goal.returns-in-Ok-clause-ran
 returns-in-Ok-clause-ran g c =
     worked_ran (λ (start : Devices). Progress start (record { left = g.S.Source.left c.args.source.now; written = g.K.Sink.written c.args.sink.now }) (hand_of c.args.self.now) [])
     (g.S.Source.left c.answer_all.new.source) (g.K.Sink.written c.answer_all.new.sink) (g.K.Sink.written c.finish.new.sink) (hand_of c.answer_all.new.self) c.in-Ok.ensures.on
-    c.finish.result c.finish.new.self.malformed c.finish.ensures.same c.in-Ok.ensures.ended.0 c.in-Ok.ensures.ended.1 c.finish.ensures.ran
+    c.finish.result c.finish.new.self.responder.malformed c.finish.ensures.same c.in-Ok.ensures.ended.0 c.in-Ok.ensures.ended.1 c.finish.ensures.ran
 
 pub returns-in-Ok-clause-stops : goal.returns-in-Ok-clause-stops
 returns-in-Ok-clause-stops g c =
@@ -24,14 +24,14 @@ returns-in-Ok-clause-rose g c =
 
 pub returns-in-Err-NoMemory-clause-stops : goal.returns-in-Err-NoMemory-clause-stops
 returns-in-Err-NoMemory-clause-stops g c = λ start p.
-    gave_up c.give_up.result c.give_up.ensures.stop start (g.S.Source.left c.answer_all.new.source) (g.K.Sink.written c.answer_all.new.sink) (g.K.Sink.written c.give_up.new.sink) c.answer_all.new.self.text.items c.give_up.ensures.front
-    (subst (λ (s : Stop). Ends s start (record { left = g.S.Source.left c.answer_all.new.source; written = g.K.Sink.written c.answer_all.new.sink }) c.answer_all.new.self.text.items)
+    gave_up c.give_up.result c.give_up.ensures.stop start (g.S.Source.left c.answer_all.new.source) (g.K.Sink.written c.answer_all.new.sink) (g.K.Sink.written c.give_up.new.sink) c.answer_all.new.self.responder.text.items c.give_up.ensures.front
+    (subst (λ (s : Stop). Ends s start (record { left = g.S.Source.left c.answer_all.new.source; written = g.K.Sink.written c.answer_all.new.sink }) c.answer_all.new.self.responder.text.items)
     c.in-Err-NoMemory.field-0-is (c.in-Err-NoMemory.ensures.stops start p))
 
 pub returns-in-Err : goal.returns-in-Err
 returns-in-Err g c = record {
   ran = tt;
-  stops = λ start p. end_stops c.in-Err.stop start (record { left = g.S.Source.left c.answer_all.new.source; written = g.K.Sink.written c.answer_all.new.sink }) c.answer_all.new.self.text.items (c.in-Err.ensures.stops start p);
+  stops = λ start p. end_stops c.in-Err.stop start (record { left = g.S.Source.left c.answer_all.new.source; written = g.K.Sink.written c.answer_all.new.sink }) c.answer_all.new.self.responder.text.items (c.in-Err.ensures.stops start p);
   rose = c.in-Err.ensures.rose;
   source_counted = c.in-Err.ensures.source_counted;
   sink_counted = c.in-Err.ensures.sink_counted;

@@ -1,6 +1,6 @@
 use Rattle.std.proofs.Common.{◌∙◌}
 use Rattle.ltx_top.proofs.Results.{closed}
-use Rattle.ltx_top.proofs.session.Session.close.Goals as goal
+use Rattle.ltx_top.proofs.responder.Responder.close.Goals as goal
 
 pub returns-clause-ending : goal.returns-clause-ending
 returns-clause-ending c =
