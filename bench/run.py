@@ -4,8 +4,9 @@
 usage: run.py PROGRAM [quick]
 
 PROGRAM is what the gate leaves at crates/ltx_run/out/ltx_run. Costs are instructions under valgrind's callgrind, less
-those of the rows that a workload loads first; a workload of 1,000,000 rows is measured by processor time alone. `quick`
-leaves out what takes minutes.
+those of the rows that a workload loads first; a workload of 1,000,000 rows is measured by processor time alone. Under the
+lines of one long transaction stands what of their cost lies outside the core: reader, parser, printer and the end of the run.
+`quick` leaves out what takes minutes.
 """
 import os
 import re
@@ -45,6 +46,14 @@ def instructions(program, path, folder):
     return int(re.search(r"Collected : (\d+)", done.stderr).group(1))
 
 
+def in_core(folder):
+    """The instructions of the last run that were spent in the core and below it."""
+    words = ["callgrind_annotate", "--inclusive=yes", f"{folder}/out"]
+    text = subprocess.run(words, capture_output=True, text=True).stdout
+    costs = re.findall(r"^ *([\d,]+) .*:ltx_core::step::Core::", text, flags=re.M)
+    return max((int(cost.replace(",", "")) for cost in costs), default=0)
+
+
 def seconds(program, path):
     before = resource.getrusage(resource.RUSAGE_CHILDREN).ru_utime
     with open(path) as source:
@@ -66,6 +75,8 @@ def main():
                 each = (total - (loaded if workload in ("pairs-big", "scans") else 0)) / count
                 first = first or each
                 print(f"{name:42} {count:9} {each:12.0f} a {unit[:11]:11} {each / first:6.2f}", flush=True)
+                if workload == "talk":
+                    print(f"{'  of it outside the core':52} {(total - in_core(folder)) / count:12.0f} a {unit}", flush=True)
         for name, workload, count in [] if quick else TIMED:
             took = seconds(program, write(folder, workload, count))
             print(f"{name:42} {count:9} {1e6 * took / count:12.2f} microseconds a row", flush=True)

@@ -8,22 +8,28 @@ mod tests {
     use std::alloc::Global;
     use std::test::Fail;
 
-    /// A source that gives at most eight bytes a read.
+    /// A source that gives at most so many bytes a read.
     #[derive(Drop)]
-    struct Eights(MemSource);
+    struct Narrow {
+        source: MemSource,
+        most: usize,
+    }
 
-    impl Source for Eights {
+    impl Source for Narrow {
         ghost use Rattle.std.specs.Prelude.{None};
 
         ghost left = { λ _. None };
 
-        ghost faults = { λ s. s.0.calls.faults };
+        ghost faults = { λ s. s.source.calls.faults };
 
         fn read(&mut self, buffer: &mut [u8]) -> Result<usize, Failed> {
-            let most = buffer.len().min(8);
-            self.0.read(&mut buffer[..most])
+            let most = buffer.len().min(self.most);
+            self.source.read(&mut buffer[..most])
         }
     }
+
+    /// The bytes of a read, at most: lines that reads cut, and lines that are held whole.
+    const A_READ: [usize; 2] = [8, 100_000];
 
     /// The status of the top call, proved from the bounds alone.
     fn call<S: Source, D: Disk, K: Sink>(
@@ -41,14 +47,16 @@ mod tests {
     struct Given {
         status: u8,
         printed: Vec<u8>,
-        source: Eights,
+        source: Narrow,
     }
 
-    /// The top call with these words and this script. The reads and writes of these numbers fail, and the first call of the disk.
+    /// The top call with these words and this script, of which a read gives so many bytes at most. The reads and writes of these
+    /// numbers fail, and the first call of the disk.
     fn called_with(
         alloc: Global,
         words: &[&str],
         script: Vec<u8>,
+        most: usize,
         reads: &[u64],
         writes: &[u64],
     ) -> Result<Given, Fail> {
@@ -56,7 +64,10 @@ mod tests {
         for word in words {
             spelt.push(String::from_str(alloc, word)?)?;
         }
-        let mut source = Eights(MemSource::new(script, Vec::from_slice(alloc, reads)?));
+        let mut source = Narrow {
+            source: MemSource::new(script, Vec::from_slice(alloc, reads)?),
+            most,
+        };
         let mut disk = MemDisk::new(Vec::new(alloc), 0, vec![in alloc; 1]?)?;
         let mut sink = MemSink::new(alloc, 100_000, Vec::from_slice(alloc, writes)?)?;
         let status = call(alloc, &spelt, &mut source, &mut disk, &mut sink);
@@ -82,7 +93,7 @@ mod tests {
         put_line(out, reply)
     }
 
-    /// Whether the lines are printed with these replies, and then this ending, at status 0.
+    /// Whether the lines are printed with these replies, and then this ending, at status 0, whatever a read gives.
     fn is_printed(alloc: Global, rows: &[(&str, &str)], ending: &str) -> Result<bool, Fail> {
         let mut script = Vec::new(alloc);
         let mut text = Vec::new(alloc);
@@ -91,8 +102,14 @@ mod tests {
             put_entry(&mut text, line, reply)?;
         }
         text.extend_from_slice(ending.as_bytes())?;
-        let given = called_with(alloc, &["run"], script, &[], &[])?;
-        Ok(given.status == 0 && given.printed.as_slice() == text.as_slice())
+        for most in A_READ {
+            let script = Vec::from_slice(alloc, &script)?;
+            let given = called_with(alloc, &["run"], script, most, &[], &[])?;
+            if given.status != 0 || given.printed.as_slice() != text.as_slice() {
+                return Ok(false);
+            }
+        }
+        Ok(true)
     }
 
     const A_READ_SEES_A_COMMIT: &[(&str, &str)] = &[
@@ -204,17 +221,21 @@ mod tests {
         put_line(&mut script, "1 get 0 x")?;
         put_entry(&mut text, "1 get 0 x", "notx")?;
         text.extend_from_slice(b"order\ndurable 0\n")?;
-        let given = called_with(alloc, &["run"], script, &[], &[])?;
-        assert_eq!(rt; given.status, 1);
-        assert_eq!(rt; given.printed.as_slice(), text.as_slice());
+        for most in A_READ {
+            let script = Vec::from_slice(alloc, &script)?;
+            let given = called_with(alloc, &["run"], script, most, &[], &[])?;
+            assert_eq!(rt; given.status, 1);
+            assert_eq!(rt; given.printed.as_slice(), text.as_slice());
+        }
         Ok(())
     }
 
-    /// A run that stops: its words and script, the numbers of the reads and writes that fail, the status, what is printed, and
-    /// how many bytes of the script are not read.
+    /// A run that stops: its words and script, the bytes of a read at most, the numbers of the reads and writes that fail, the
+    /// status, what is printed, and how many bytes of the script are not read.
     type Stop = (
         &'static [&'static str],
         &'static str,
+        usize,
         &'static [u64],
         &'static [u64],
         u8,
@@ -228,37 +249,43 @@ mod tests {
 
     const EPOCH: &str = "epoch => epoch 2\n";
 
+    const ALL: &str = "1 short => begun 1\n1 abort => aborted\n1 short => begun 2\n";
+
     const STOPS: &[Stop] = &[
         // Words that are no command: no device is called, so the first read is still to come, and the second one fails.
-        (&[], LINES, &[2], &[1], 2, "", 24),
-        (&["run", "now"], LINES, &[2], &[1], 2, "", 24),
-        (&["threads", "0"], LINES, &[2], &[1], 2, "", 24),
-        (&["threads", "17"], LINES, &[2], &[1], 2, "", 24),
-        (&["threads", "02"], LINES, &[2], &[1], 2, "", 24),
-        (&["drive", "7"], LINES, &[2], &[1], 2, "", 24),
-        (&["drive", "7", "100001"], LINES, &[2], &[1], 2, "", 24),
+        (&[], LINES, 8, &[2], &[1], 2, "", 24),
+        (&["run", "now"], LINES, 8, &[2], &[1], 2, "", 24),
+        (&["threads", "0"], LINES, 8, &[2], &[1], 2, "", 24),
+        (&["threads", "17"], LINES, 8, &[2], &[1], 2, "", 24),
+        (&["threads", "02"], LINES, 8, &[2], &[1], 2, "", 24),
+        (&["drive", "7"], LINES, 8, &[2], &[1], 2, "", 24),
+        (&["drive", "7", "100001"], LINES, 8, &[2], &[1], 2, "", 24),
         // A read fails: each whole line that was read is answered and printed, and nothing more is read.
-        (&["run"], "epoch\n", &[1], &[], 4, "", 6),
-        (&["run"], "epoch\n", &[2], &[], 4, EPOCH, 0),
-        (&["run"], "epoch\n1 short\n", &[2], &[], 4, EPOCH, 6),
-        (&["run"], LINES, &[2], &[], 4, FIRST, 16),
+        (&["run"], "epoch\n", 8, &[1], &[], 4, "", 6),
+        (&["run"], "epoch\n", 8, &[2], &[], 4, EPOCH, 0),
+        (&["run"], "epoch\n1 short\n", 8, &[2], &[], 4, EPOCH, 6),
+        (&["run"], LINES, 8, &[2], &[], 4, FIRST, 16),
         // A write fails: each entry was to be printed before the next read.
-        (&["run"], "epoch\n", &[], &[1], 5, "", 0),
-        (&["run"], "epoch\n", &[], &[2], 5, EPOCH, 0),
-        (&["run"], LINES, &[], &[1], 5, "", 16),
-        (&["run"], LINES, &[], &[2], 5, FIRST, 8),
+        (&["run"], "epoch\n", 8, &[], &[1], 5, "", 0),
+        (&["run"], "epoch\n", 8, &[], &[2], 5, EPOCH, 0),
+        (&["run"], LINES, 8, &[], &[1], 5, "", 16),
+        (&["run"], LINES, 8, &[], &[2], 5, FIRST, 8),
+        // The whole script in one read: its lines are answered before the next read, and printed at once.
+        (&["run"], LINES, 100, &[2], &[], 4, ALL, 0),
+        (&["run"], LINES, 100, &[], &[1], 5, "", 0),
+        (&["run"], LINES, 100, &[], &[2], 5, ALL, 0),
     ];
 
     #[test]
     fn the_first_fault_ends_a_run(rt: HostRuntime) -> Result<(), Fail> {
         let alloc = rt.alloc();
-        for (words, script, reads, writes, status, printed, left) in STOPS {
+        for (words, script, most, reads, writes, status, printed, left) in STOPS {
             let script = Vec::from_slice(alloc, script.as_bytes())?;
-            let mut given = called_with(alloc, words, script, reads, writes)?;
+            let mut given = called_with(alloc, words, script, *most, reads, writes)?;
             assert_eq!(rt; given.status, *status);
             assert_eq!(rt; given.printed.as_slice(), printed.as_bytes());
             let mut buffer = [0; 100];
-            assert_eq!(rt; given.source.0.read(&mut buffer)?, *left);
+            assert_eq!(rt; given.source.source.read(&mut buffer)?, *left);
         }
         Ok(())
     }

@@ -8,3 +8,4 @@ pub mod Spelt
 pub mod Refused
 pub mod OneCause
 pub mod Answered
+pub mod LastWord

@@ -29,7 +29,7 @@ use Rattle.ltx_script.proofs.Readings.{ok_is}
 use Rattle.ltx_script.proofs.SetLemmas.{tables_rise}
 use Rattle.ltx_script.proofs.SetTexts.{set_again, all_text, is_all, other_text}
 
-both : (a b : Bool) → (a && b) ≡ true → (a ≡ true) × (b ≡ true)
+pub both : (a b : Bool) → (a && b) ≡ true → (a ≡ true) × (b ≡ true)
 both true true e = (refl, refl)
 both true false e = absurd cc
 both false b e = absurd cc

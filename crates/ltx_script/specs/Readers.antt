@@ -6,7 +6,7 @@ use Rattle.ltx_model.specs.declared.commands.Bad.TheVariants as causes
 use Rattle.ltx_model.specs.declared.commands.Command.{Command}
 use Rattle.ltx_model.specs.declared.commands.Command.TheVariants as commands
 use Rattle.ltx_model.specs.declared.commands.Verb.{Verb}
-use Rattle.ltx_script.specs.Lines.{◌>>=◌, words_of, is_word}
+use Rattle.ltx_script.specs.Lines.{◌>>=◌, words_of, is_word, next_word, alone}
 use Rattle.ltx_script.specs.declared.refusal.Refusal.{Refusal}
 use Rattle.ltx_script.specs.declared.refusal.Refusal.TheVariants as refusals
 
@@ -19,6 +19,10 @@ Refuses (refusals.Cause cause) read = read ≡ Err cause
 abbrev pub Gives : {X Y : Type 0} → (X → Y) → Result X Refusal → Result Y Bad → Type 0
 Gives view (Ok x) read = read ≡ Ok (view x)
 Gives view (Err refusal) read = Refuses refusal read
+
+-- the next word, with none behind it
+abbrev pub last_word : List (List ℕ) → Result (List ℕ) Bad
+last_word words = next_word words >>= (λ p. alone p.1 p.0)
 
 -- what this session asks, where it was read
 abbrev pub asked : ℕ → Result Verb Bad → Result Command Bad

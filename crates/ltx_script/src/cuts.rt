@@ -4,13 +4,14 @@ ghost use Rattle.std.specs.Prelude.{◌≡◌, ◌<◌, ◌==◌, ◌&&◌, ℕ,
 ghost use Rattle.std.specs.List.{list_all, position};
 ghost use Rattle.ltx_text.specs.Words.{is_visible};
 ghost use Rattle.ltx_script.specs.Lines.{cut_at, parts_after, words_of, words_after, is_word, alone, next_word, at_most_one, one_or_two, two, three};
-ghost use Rattle.ltx_script.specs.Readers.{Gives};
+ghost use Rattle.ltx_script.specs.Readers.{Gives, last_word};
 
 use crate::refusal::Refusal;
-use ltx_model::commands::Bad;
+use ltx_model::commands::{Bad, Command};
+use ltx_text::words::are_plain;
 
 /// The place of the first such byte. A word is a few bytes long, so this loop costs less than a call of `memchr`.
-fn place_of(text: &[u8], at: u8) -> Option<usize>
+fn position_of(text: &[u8], at: u8) -> Option<usize>
     ensures { result ≡ position (λ byte. byte == at) text.now }
 {
     text.iter().position(|byte| *byte == at)
@@ -21,7 +22,7 @@ pub(crate) fn cut(text: &[u8], at: u8) -> (&[u8], Option<&[u8]>)
     ensures parts { cut_at at text.now ≡ result.0.now ∷ parts_after at (option_copied result.1) }
     ensures shorter { MatchOption result.1 (result.0.now ≡ text.now) (λ rest. length rest.now < length text.now) }
 {
-    match place_of(text, at) {
+    match position_of(text, at) {
         None => (text, None),
         Some(i) => {
             let (front, rest) = text.split_at(i);
@@ -56,7 +57,7 @@ pub(crate) fn are_words(line: &[u8]) -> bool
 }
 
 /// That there is no further word.
-pub(crate) fn alone<X: Drop>(rest: Option<&[u8]>, x: X) -> Result<X, Refusal>
+fn alone<X: Drop>(rest: Option<&[u8]>, x: X) -> Result<X, Refusal>
     ensures { Gives (λ x. x) result (alone (words_after (option_copied rest.entry)) x) }
 {
     match rest {
@@ -66,13 +67,42 @@ pub(crate) fn alone<X: Drop>(rest: Option<&[u8]>, x: X) -> Result<X, Refusal>
 }
 
 /// The next word and what stands behind it. Where there is none, the number of words is wrong.
-pub(crate) fn next_word(rest: Option<&[u8]>) -> Result<(&[u8], Option<&[u8]>), Refusal>
+fn next_word(rest: Option<&[u8]>) -> Result<(&[u8], Option<&[u8]>), Refusal>
     ensures { Gives (λ p. (p.0.now, words_after (option_copied p.1))) result (next_word (words_after (option_copied rest.entry))) }
 {
     match rest {
         None => Err(Refusal::Cause(Bad::Words)),
         Some(text) => Ok(cut(text, b' ')),
     }
+}
+
+/// A command that stands alone, written in place. It is inlined, since a call would pass the command through memory.
+#[inline(always)]
+pub(crate) fn alone_as(
+    made: Command,
+    rest: Option<&[u8]>,
+    command: &mut Command,
+) -> Result<(), Refusal>
+    ensures { Gives (λ _. command.new) result (alone (words_after (option_copied rest.entry)) made) }
+{
+    alone(rest, ())?;
+    *command = made;
+    Ok(())
+}
+
+/// The next word, with none behind it. Most words are plain bytes, none of which is a space: so the test of them, eight at
+/// a time, also tells that the text is one word.
+fn last_word(rest: Option<&[u8]>) -> Result<&[u8], Refusal>
+    ensures { Gives (λ word. word.now) result (last_word (words_after (option_copied rest.entry))) }
+{
+    let Some(text) = rest else {
+        return Err(Refusal::Cause(Bad::Words));
+    };
+    if are_plain(text) {
+        return Ok(text);
+    }
+    let (word, rest) = cut(text, b' ');
+    alone(rest, word)
 }
 
 /// The only word, if there is one.
@@ -101,8 +131,7 @@ pub(crate) fn two(rest: Option<&[u8]>) -> Result<(&[u8], &[u8]), Refusal>
     ensures { Gives (λ p. (p.0.now, p.1.now)) result (two (words_after (option_copied rest.entry))) }
 {
     let (first, rest) = next_word(rest)?;
-    let (second, rest) = next_word(rest)?;
-    alone(rest, (first, second))
+    Ok((first, last_word(rest)?))
 }
 
 /// Three words with none behind them.
@@ -112,6 +141,5 @@ pub(crate) fn three(rest: Option<&[u8]>) -> Result<(&[u8], &[u8], &[u8]), Refusa
 {
     let (first, rest) = next_word(rest)?;
     let (second, rest) = next_word(rest)?;
-    let (third, rest) = next_word(rest)?;
-    alone(rest, (first, second, third))
+    Ok((first, second, last_word(rest)?))
 }

@@ -10,7 +10,7 @@ ghost use Rattle.ltx_script.specs.Lines.{words_after, ask_at, command_at, most_b
 ghost use Rattle.ltx_script.specs.Readers.{Gives, first_cause};
 
 use crate::arguments::session_of;
-use crate::cuts::{alone, are_words, cut};
+use crate::cuts::{alone_as, are_words, cut};
 use crate::refusal::Refusal;
 use crate::verbs::asked_of;
 use ltx_model::commands::{Bad, Command, Line};
@@ -45,25 +45,19 @@ fn command_of(
     ensures { Gives (λ _. command.new) result (command_at word.now (words_after (option_copied rest.entry))) }
 {
     if word == b"epoch".as_slice() {
-        alone(rest, ())?;
-        *command = Command::Epoch;
-        return Ok(());
+        return alone_as(Command::Epoch, rest, command);
     }
     if word == b"flush".as_slice() {
-        alone(rest, ())?;
-        *command = Command::Flush;
-        return Ok(());
+        return alone_as(Command::Flush, rest, command);
     }
     if word == b"prune".as_slice() {
-        alone(rest, ())?;
-        *command = Command::Prune;
-        return Ok(());
+        return alone_as(Command::Prune, rest, command);
     }
     ask_of(alloc, word, rest, command)
 }
 
 /// The first cause of a line in which no command was read: the cause found, unless the line is not words. What is read
-/// as a command is words, so a line is tested for them only here.
+/// as a command is words, so a line is tested for them only here. It is a call, so that what a good line runs through stays small.
 #[inline(never)]
 fn first_cause(line: &[u8], cause: Bad) -> Bad
     ensures { result ≡ first_cause line.now cause }

@@ -6,13 +6,13 @@ ghost use Rattle.ltx_script.specs.Lines.{words_after, alone, long_at, get_at, sc
 ghost use Rattle.ltx_script.specs.Readers.{Gives, asked};
 
 use crate::arguments::{bound_of, key_of, reads_of, table_of, value_of, writes_of};
-use crate::cuts::{alone, cut, one_or_two, three, two};
+use crate::cuts::{alone_as, cut, one_or_two, three, two};
 use crate::refusal::Refusal;
 use ltx_model::commands::{Bad, Command, Op, Verb};
 use ltx_model::numbers::Session;
 use std::alloc::Global;
 
-/// A verb that stands alone. It is inlined, since a call would pass the verb through memory.
+/// A verb that stands alone.
 #[inline(always)]
 fn bare_of(
     session: Session,
@@ -22,9 +22,7 @@ fn bare_of(
 ) -> Result<(), Refusal>
     ensures { Gives (λ _. command.new) result (asked session (alone (words_after (option_copied rest.entry)) bare)) }
 {
-    alone(rest, ())?;
-    *command = Command::Ask(session, bare);
-    Ok(())
+    alone_as(Command::Ask(session, bare), rest, command)
 }
 
 /// The begin of a batch.

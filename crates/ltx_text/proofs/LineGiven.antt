@@ -10,7 +10,7 @@ use Rattle.ltx_text.specs.Pieces.{given}
 use Rattle.ltx_text.proofs.LineLemmas.{Cuts-nothing, feeds-append, pieces_are_few, pieces_line, pieces_none}
 
 -- bytes with a line feed are the line, the line feed and the bytes behind it
-pub parts_of : (bytes : List ℕ) (at : ℕ) → IsFirstFeed bytes at → bytes ≡ take at bytes ++ 10 ∷ drop (at + 1) bytes
+parts_of : (bytes : List ℕ) (at : ℕ) → IsFirstFeed bytes at → bytes ≡ take at bytes ++ 10 ∷ drop (at + 1) bytes
 parts_of bytes at first =
     sym (take-append-drop at bytes) ∙ ap (λ (t : List ℕ). take at bytes ++ t) (drop_more bytes at 0 first.within ∙ ap (λ (b : ℕ). b ∷ drop (at + 1) bytes) first.here)
 

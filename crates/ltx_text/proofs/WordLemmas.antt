@@ -23,9 +23,6 @@ escaped_spelling b escaped = rw escaped refl
 pub hex_digit_one : (d e : ℕ) → hex_digit d ≡ hex_digit e → d ≡ e
 hex_digit_one d e same = grind arith
 
-percent_is_escaped : is_plain 37 ≡ false
-percent_is_escaped = refl
-
 pub plain_is_byte : (b : ℕ) → is_plain b ≡ true → b < 256
 plain_is_byte b plain = grind arith
 
@@ -158,7 +155,7 @@ plain_by_recursion : (xs : List ℕ) → AllByRecursion (λ b. is_plain b ≡ tr
 plain_by_recursion [] plain = refl
 plain_by_recursion (x ∷ xs) plain = rw (plain_spelling x plain.0, plain_by_recursion xs plain.1) refl
 
-pub plain_spellings : (xs : List ℕ) → AllPass is_plain xs → spellings xs ≡ xs
+plain_spellings : (xs : List ℕ) → AllPass is_plain xs → spellings xs ≡ xs
 plain_spellings xs plain = plain_by_recursion xs (recursion_from_All (λ b. is_plain b ≡ true) xs plain)
 
 -- they are their own word

@@ -106,7 +106,7 @@ impl Lines {
         Some(line)
     }
 
-    /// Lets the line go that `peek` lends, with its line feed.
+    /// Lets the line go that `peek` lends, with its line feed. `length` is the line's, in bytes.
     pub fn skip_line(&mut self, length: usize)
         requires { IsFirstFeed self.old.held length }
         ensures { self.new ≡ record self.old { held = drop (length + 1) self.old.held } }

@@ -70,8 +70,8 @@ fn put_byte(byte: u8, out: &mut Vec<u8>) -> Result<(), NoMemory>
     Ok(())
 }
 
-/// Whether all bytes stand for themselves in a word. They are tested eight at a time.
-fn are_plain(bytes: &[u8]) -> bool
+/// Whether all bytes stand for themselves in a word: they are visible, and none is `%`. They are tested eight at a time.
+pub fn are_plain(bytes: &[u8]) -> bool
     ensures { result ≡ list_all is_plain bytes.now }
 {
     let mut rest = bytes;

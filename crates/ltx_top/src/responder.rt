@@ -27,8 +27,8 @@ use std::alloc::Global;
 /// What answers the lines of a run.
 #[derive(Drop)]
 pub(crate) struct Responder {
-    pub alloc: Global,
-    pub core: Core,
+    alloc: Global,
+    core: Core,
     /// What was printed and not handed to the sink yet.
     pub text: Vec<u8>,
     /// Whether some reply is `bad`.

@@ -75,7 +75,8 @@ impl Session {
         }
     }
 
-    /// Takes the next piece by a read. The gathered text is handed to the sink before.
+    /// Takes the next piece, where no whole line is held: by a read, or at the end of the source. The gathered text is
+    /// handed to the sink before.
     fn take_piece<S: Source, K: Sink>(
         &mut self,
         source: &mut S,
@@ -126,7 +127,7 @@ impl Session {
         }
     }
 
-    /// Answers the next line after a read. False at the end of the script.
+    /// Answers the next line, where none is held whole. False at the end of the script.
     fn answer_read<S: Source, K: Sink>(
         &mut self,
         source: &mut S,

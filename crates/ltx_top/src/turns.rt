@@ -1,16 +1,10 @@
 //! The steps of a turn: a piece is taken, and a line is answered and gathered as text.
 
-ghost use Rattle.std.specs.Prelude.{◌≡◌, ◌≤◌, ◌<◌, ◌+◌, ℕ, List, Option, [], ◌∷◌, ◌++◌, Ok, IfOk, OnErr, IsErrOf};
+ghost use Rattle.std.specs.Prelude.{◌≡◌, ◌≤◌, ◌<◌, ◌+◌, [], Ok, IfOk, OnErr, IsErrOf};
 ghost use Rattle.std.specs.Io.KnownBytes.{IsAtEnd};
-ghost use Rattle.ltx_model.specs.declared.replies.Entry.{Entry};
-ghost use Rattle.ltx_model.specs.Histories.{state};
-ghost use Rattle.ltx_model.specs.Answers.{IsLegalWith, staged};
 ghost use Rattle.ltx_outside.specs.Faults.{Rose};
-ghost use Rattle.ltx_core.specs.Built.{built};
-ghost use Rattle.ltx_core.specs.Stands.{StandsFor};
 ghost use Rattle.ltx_text.specs.Lines.{Cuts, NoFeedAhead, feeds};
 ghost use Rattle.ltx_text.specs.Pieces.{OnEnd, given};
-ghost use Rattle.ltx_top.specs.Transcripts.{empty_base, entry_text};
 ghost use Rattle.ltx_top.specs.Progress.{IsUnderWay, Served};
 ghost use Rattle.ltx_top.specs.Runs.{is_bad};
 ghost use Rattle.ltx_top.specs.Spellings.{IsSpelt};
