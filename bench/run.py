@@ -5,8 +5,8 @@ usage: run.py PROGRAM [quick]
 
 PROGRAM is what the gate leaves at crates/ltx_run/out/ltx_run. Costs are instructions under valgrind's callgrind, less
 those of the rows that a workload loads first; a workload of 1,000,000 rows is measured by processor time alone. Under the
-lines of one long transaction stands what of their cost lies outside the core: reader, parser, printer and the end of the run.
-`quick` leaves out what takes minutes.
+row of 1,000 lines a transaction stands what of its cost lies outside the core: reader, parser, printer and the end of the
+run. `quick` leaves out what takes minutes.
 """
 import os
 import re

@@ -1,13 +1,13 @@
 -- A guess at the reply that a text is, by its words. Each text of a reply gives this reply; another text may give one as well.
-use Rattle.std.specs.Prelude.{ℕ, ◌+◌, ◌-◌, ◌*◌, ◌^◌, ◌==◌, ◌&&◌, nat_lt, nat_le, if◌then◌else◌, List, [], ◌∷◌, length, Option, Some, None, codes, bytes_eq}
-use Rattle.std.specs.List.{slice_split, list_all}
+use Rattle.std.specs.Prelude.{ℕ, ◌^◌, ◌==◌, ◌&&◌, nat_lt, nat_le, if◌then◌else◌, List, [], ◌∷◌, length, Option, Some, None, codes, bytes_eq}
+use Rattle.std.specs.List.{slice_split}
 use Rattle.std.specs.Str.Parse.{digits_value}
 use Rattle.ltx_model.specs.declared.commands.Bad.{Bad}
 use Rattle.ltx_model.specs.declared.commands.Bad.TheVariants as causes
 use Rattle.ltx_model.specs.declared.replies.Reply.{Reply}
 use Rattle.ltx_model.specs.declared.replies.Reply.TheVariants as replies
 use Rattle.ltx_model.specs.declared.rows.Row.{Row}
-use Rattle.ltx_text.specs.Words.{word_of}
+use Rattle.ltx_text.specs.Readings.{bytes_of}
 use Rattle.ltx_text.specs.Decimals.{decimal_of}
 
 -- ---- words
@@ -60,25 +60,6 @@ count_at word = number_in 0 (2 ^ 32) word
 
 abbrev pub table_at : List ℕ → Option ℕ
 table_at word = number_in 0 64 word
-
--- the number of a hexadecimal digit
-abbrev pub hex_value : ℕ → ℕ
-hex_value digit = if nat_lt digit 65 then digit - 48 else digit - 55
-
--- a text with each `%` and the two digits behind it as one byte
-abbrev pub unescaped : List ℕ → List ℕ
-unescaped [] = []
-unescaped (b ∷ []) = b ∷ []
-unescaped (b ∷ h ∷ []) = b ∷ h ∷ []
-unescaped (b ∷ h ∷ l ∷ rest) = if b == 37 then (hex_value h * 16 + hex_value l) ∷ unescaped rest else b ∷ unescaped (h ∷ l ∷ rest)
-
--- these bytes, where they are bytes and this is their word
-abbrev pub if_word_of : List ℕ → List ℕ → Option (List ℕ)
-if_word_of bytes word = if list_all (λ b. nat_lt b 256) bytes && bytes_eq (word_of bytes) word then Some bytes else None
-
--- the byte string with this word
-unfoldable pub bytes_of : List ℕ → Option (List ℕ)
-bytes_of word = if bytes_eq word (codes "%") then Some [] else if_word_of (unescaped word) word
 
 -- a byte string of such a length
 abbrev pub of_length : ℕ → ℕ → Option (List ℕ) → Option (List ℕ)

@@ -1,6 +1,6 @@
 //! The words of a text, one after another, without a copy.
 
-ghost use Rattle.std.specs.Prelude.{◌≡◌, ◌<◌, ℕ, List, length, ◌∷◌, [], Option, Some, None, MatchOption, option_copied, bytes_eq};
+ghost use Rattle.std.specs.Prelude.{◌≡◌, ◌<◌, length, ◌∷◌, Option, Some, None, MatchOption, option_copied, bytes_eq};
 ghost use Rattle.ltx_reply.specs.Readings.{words_of, words_after, next_word, five};
 ghost use Rattle.ltx_reply.specs.Readers.{Gives};
 

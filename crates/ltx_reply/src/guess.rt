@@ -1,7 +1,7 @@
 //! A guess at the reply that a text is, by its first word. Each text of a reply gives this reply; another text may
 //! give one as well, since what stands at an end is not looked at.
 
-ghost use Rattle.std.specs.Prelude.{◌≡◌, ℕ, List, length, Option, Some, None, option_copied};
+ghost use Rattle.std.specs.Prelude.{◌≡◌, Option, Some, None, option_copied};
 ghost use Rattle.ltx_reply.specs.Readings.{words_after, numbered_at, single_at, worded_at, fixed_at, guess_at};
 ghost use Rattle.ltx_reply.specs.Readers.{Gives};
 

@@ -1,6 +1,6 @@
 //! Replies with parts, each kind from the words behind its first one.
 
-ghost use Rattle.std.specs.Prelude.{◌≡◌, ℕ, List, length, Option, Some, None, option_copied};
+ghost use Rattle.std.specs.Prelude.{Option, Some, option_copied};
 ghost use Rattle.ltx_reply.specs.Readings.{words_after, begun_at, committed_at, rows_in, rows_at, preserved_at, changed_at, late_at, contradicts_at};
 ghost use Rattle.ltx_reply.specs.Readers.{Gives};
 

@@ -1,15 +1,15 @@
 //! What the types of a reply's parts say of them, as clauses: each reply is within the limits of its parts. So what is
 //! said of texts of replies within their limits is said of every reply.
 
-ghost use Rattle.std.specs.Prelude.{◌≡◌, ◌<◌, ◌^◌, ℕ, List, length, Option};
+ghost use Rattle.std.specs.Prelude.{◌<◌, ◌^◌, length, Option};
 ghost use Rattle.std.specs.List.{AllByRecursion};
 ghost use Rattle.ltx_reply.specs.Texts.{IsTx, IsWriter, IsCount, IsTable, IsKey, IsValue, IsRow, IsWithinLimits};
 
-use crate::parts::are_bytes;
 use ltx_model::bytes::{Key, Value};
 use ltx_model::numbers::{Table, Tx};
 use ltx_model::replies::Reply;
 use ltx_model::rows::Row;
+use ltx_text::words::are_bytes;
 
 /// A transaction is numbered from 1 on, in 63 bits.
 fn tx(tx: Tx)

@@ -1,15 +1,13 @@
 //! The parts of a reply, each from its word.
 
-ghost use Rattle.std.specs.Prelude.{◌≡◌, ◌<◌, ◌^◌, ℕ, List, length, Option, Some, None, IfOk, option_map};
-ghost use Rattle.ltx_text.specs.Words.{AreBytes};
-ghost use Rattle.ltx_reply.specs.Readings.{number_in, tx_at, count_at, table_at, bytes_of, key_at, value_at, writer_at, cause_at};
+ghost use Rattle.std.specs.Prelude.{◌≡◌, ◌<◌, Option, Some, None};
+ghost use Rattle.ltx_reply.specs.Readings.{tx_at, count_at, table_at, key_at, value_at, writer_at, cause_at};
 ghost use Rattle.ltx_reply.specs.Readers.{Gives};
 
 use crate::cuts::is;
 use crate::unread::Unread;
 use ltx_model::bytes::{Key, Value};
 use ltx_model::commands::Bad;
-use ltx_model::memory::NoMemory;
 use ltx_model::numbers::{Table, Tx};
 use ltx_text::decimals::decimal;
 use ltx_text::words::decode_word;
@@ -63,28 +61,12 @@ pub(crate) fn table_of(word: &[u8]) -> Result<Table, Unread>
     named_table(word).ok_or(Unread::NoReply)
 }
 
-/// What the type of bytes says, as a clause.
-pub(crate) fn are_bytes(bytes: &[u8])
-    ensures { AreBytes bytes.now }
-{}
-
-/// The byte string with this word.
-fn bytes_of(alloc: Global, word: &[u8]) -> Result<Option<Vec<u8>>, NoMemory>
-    ensures { IfOk result (λ found. bytes_of word.now ≡ option_map (λ bytes. bytes.items) found) }
-{
-    let Some(bytes) = decode_word(alloc, word)? else {
-        return Ok(None);
-    };
-    are_bytes(&bytes);
-    Ok(Some(bytes))
-}
-
 /// The key with this word.
 #[tactic(auto, using(crate::proofs::PartLemmas::no_key, crate::proofs::PartLemmas::key_some, crate::proofs::PartLemmas::key_out))]
 pub(crate) fn key_of(alloc: Global, word: &[u8]) -> Result<Key, Unread>
     ensures { Gives (λ key. key) result (key_at word.now) }
 {
-    let Some(bytes) = bytes_of(alloc, word)? else {
+    let Some(bytes) = decode_word(alloc, word)? else {
         return Err(Unread::NoReply);
     };
     Key::from_bytes(bytes).map_err(|_| Unread::NoReply)
@@ -95,7 +77,7 @@ pub(crate) fn key_of(alloc: Global, word: &[u8]) -> Result<Key, Unread>
 pub(crate) fn value_of(alloc: Global, word: &[u8]) -> Result<Value, Unread>
     ensures { Gives (λ value. value) result (value_at word.now) }
 {
-    let Some(bytes) = bytes_of(alloc, word)? else {
+    let Some(bytes) = decode_word(alloc, word)? else {
         return Err(Unread::NoReply);
     };
     Value::from_bytes(bytes).map_err(|_| Unread::NoReply)

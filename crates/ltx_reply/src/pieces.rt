@@ -1,7 +1,7 @@
 //! Pieces of a reply's text: fixed words, and numbers and byte strings after a space. Each is appended to a text;
 //! where memory is wanting, the text keeps what it held and may have a front of the piece behind it.
 
-ghost use Rattle.std.specs.Prelude.{◌≡◌, ◌++◌, ℕ, List, Option, length, take, flat_map, OnOk, OnErr, ◌∷◌, codes};
+ghost use Rattle.std.specs.Prelude.{◌≡◌, ◌++◌, Option, length, take, flat_map, OnOk};
 ghost use Rattle.ltx_text.specs.Words.{word_of};
 ghost use Rattle.ltx_text.specs.Decimals.{decimal_of};
 ghost use Rattle.ltx_reply.specs.Texts.{spaced, writer_text, row_text, cause_text};

@@ -1,8 +1,6 @@
 //! Printing a reply: its words, with one space between two.
 
-ghost use Rattle.std.specs.Prelude.{◌≡◌, ◌++◌, ℕ, List, length, take, OnOk, OnErr, ◌∷◌, codes};
-ghost use Rattle.ltx_text.specs.Words.{word_of};
-ghost use Rattle.ltx_text.specs.Decimals.{decimal_of};
+ghost use Rattle.std.specs.Prelude.{◌≡◌, ◌++◌, length, take, OnOk, OnErr};
 ghost use Rattle.ltx_reply.specs.Texts.{witness_text, reply_text, IsReply};
 
 use crate::pieces::{

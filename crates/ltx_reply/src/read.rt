@@ -1,6 +1,6 @@
 //! Reading a reply: a guess by its words, which is the reply where it prints to the text.
 
-ghost use Rattle.std.specs.Prelude.{◌≡◌, ◌≢◌, ◌∷◌, ℕ, List, length, Option, Some, None, IsTrue, IsFalse, IfOk, IfSome, IfNone};
+ghost use Rattle.std.specs.Prelude.{◌≡◌, ◌≢◌, Option, Some, None, IsTrue, IsFalse, IfOk, IfSome, IfNone};
 ghost use Rattle.ltx_model.specs.declared.replies.Reply.{Reply};
 ghost use Rattle.ltx_model.specs.Keys.{IsRising};
 ghost use Rattle.ltx_reply.specs.Texts.{key_of, reply_text, IsReply, IsWithinLimits};
@@ -67,7 +67,7 @@ fn is_reply(reply: &Reply) -> bool
     }
 }
 
-/// What callers rest on: no two replies have one text.
+/// What callers may rest on: no two replies have one text.
 #[tactic(auto, using(crate::proofs::Hints::replies_differ))]
 pub fn replies_have_texts_of_their_own()
     ensures one { (x y : Reply) → IsWithinLimits x → IsWithinLimits y →

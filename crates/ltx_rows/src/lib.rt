@@ -29,7 +29,7 @@ mod tests {
     }
 
     /// The bytes of a read, at most: lines that reads cut, and lines that are held whole.
-    const A_READ: [usize; 2] = [8, 100_000];
+    const MOST_OF_A_READ: [usize; 2] = [8, 100_000];
 
     /// The status of the top call, proved from the bounds alone.
     fn call<S: Source, D: Disk, K: Sink>(
@@ -93,7 +93,7 @@ mod tests {
         put_line(out, reply)
     }
 
-    /// Whether the lines are printed with these replies, and then this ending, at status 0, whatever a read gives.
+    /// Whether the lines are printed with these replies, and then this ending, at status 0, for each width of a read.
     fn is_printed(alloc: Global, rows: &[(&str, &str)], ending: &str) -> Result<bool, Fail> {
         let mut script = Vec::new(alloc);
         let mut text = Vec::new(alloc);
@@ -102,7 +102,7 @@ mod tests {
             put_entry(&mut text, line, reply)?;
         }
         text.extend_from_slice(ending.as_bytes())?;
-        for most in A_READ {
+        for most in MOST_OF_A_READ {
             let script = Vec::from_slice(alloc, &script)?;
             let given = called_with(alloc, &["run"], script, most, &[], &[])?;
             if given.status != 0 || given.printed.as_slice() != text.as_slice() {
@@ -206,9 +206,13 @@ mod tests {
     #[test]
     fn bad_lines_have_their_causes(rt: HostRuntime) -> Result<(), Fail> {
         let alloc = rt.alloc();
-        let mut script = vec![in alloc; b'a'; 4_097]?;
-        put_line(&mut script, "")?;
+        let mut script = Vec::new(alloc);
         let mut text = Vec::new(alloc);
+        // The long line is the second one, so that in one of the runs it is held whole.
+        put_line(&mut script, "1 get 0 x")?;
+        put_entry(&mut text, "1 get 0 x", "notx")?;
+        script.extend_from_slice(&vec![in alloc; b'a'; 4_097]?)?;
+        put_line(&mut script, "")?;
         put_entry(&mut text, "?", "bad long")?;
         for (line, reply) in BAD_LINES {
             put_line(&mut script, line)?;
@@ -221,7 +225,7 @@ mod tests {
         put_line(&mut script, "1 get 0 x")?;
         put_entry(&mut text, "1 get 0 x", "notx")?;
         text.extend_from_slice(b"order\ndurable 0\n")?;
-        for most in A_READ {
+        for most in MOST_OF_A_READ {
             let script = Vec::from_slice(alloc, &script)?;
             let given = called_with(alloc, &["run"], script, most, &[], &[])?;
             assert_eq!(rt; given.status, 1);

@@ -4,21 +4,21 @@ use Rattle.std.specs.List.{list_all, AllByRecursion}
 use Rattle.std.proofs.lemmas.List.Elements.{All-from_recursion}
 use Rattle.std.proofs.lemmas.List.Splits.{slice_split_none}
 use Rattle.ltx_text.specs.Words.{is_plain, is_visible}
+use Rattle.ltx_text.proofs.WordReadings.{both_true}
 use Rattle.ltx_script.specs.Lines.{cut_at, words_of}
 use Rattle.ltx_script.specs.Readers.{last_word}
 use Rattle.ltx_script.proofs.Parts.{no_space}
-use Rattle.ltx_script.proofs.Spelt.{both}
 
 plain_spaces : (text : List ℕ) → list_all is_plain text ≡ true → AllByRecursion (λ b. (b == 32) ≡ false) text
 plain_spaces [] plain = tt
 plain_spaces (b ∷ text) plain =
-    let p = both (is_plain b) (list_all is_plain text) plain in
-    (no_space b (both (is_visible b) _ p.0).0, plain_spaces text p.1)
+    let p = both_true (is_plain b) (list_all is_plain text) plain in
+    (no_space b (both_true (is_visible b) _ p.0).0, plain_spaces text p.1)
 
 plain_parts : (text : List ℕ) → list_all is_plain text ≡ true → words_of text ≡ text ∷ []
 unfolding cut_at
 plain_parts text plain = slice_split_none (λ b. b == 32) text (All-from_recursion (λ b. (b == 32) ≡ false) text (plain_spaces text plain))
 
--- the last word is such a text
+-- such a text is the last word
 pub plain_last : (text : List ℕ) → list_all is_plain text ≡ true → last_word (words_of text) ≡ Ok text
 plain_last text plain = ap last_word (plain_parts text plain)

@@ -13,8 +13,9 @@ use Rattle.ltx_model.specs.declared.commands.Bad.TheVariants as causes
 use Rattle.ltx_model.specs.Tables.{all_tables}
 use Rattle.ltx_script.specs.Commands.{set_text}
 use Rattle.ltx_script.specs.Causes.{Argument, ATable, AKey, ABound, AValue, AWrites, AReads, IsSpelling, forms_of, form_of, VerbCause, unknown, miscounted, misspelt, IsControl, IsSession, WordsCause, word_behind, no_session, silent, by_verb, IsCause, too_long, no_words, by_words}
-use Rattle.ltx_script.specs.Lines.{cut_at, words_of, is_word, number_in, bytes_of, within, unless_empty, marked, unless_all, ◌>>=◌, session_at, table_at, key_at, bound_at, value_at, writes_at, reads_at, alone, one_or_two, two, three, long_at, get_at, scan_at, put_at, del_at, verb_at, asked_at, ask_at, command_at, said_at, most_bytes, reading}
-use Rattle.ltx_script.proofs.ValueLemmas.{text_is, same_bytes}
+use Rattle.ltx_text.specs.Readings.{bytes_of}
+use Rattle.ltx_script.specs.Lines.{cut_at, words_of, is_word, number_in, within, unless_empty, marked, unless_all, ◌>>=◌, session_at, table_at, key_at, bound_at, value_at, writes_at, reads_at, alone, one_or_two, two, three, long_at, get_at, scan_at, put_at, del_at, verb_at, asked_at, ask_at, command_at, said_at, most_bytes, reading}
+use Rattle.ltx_text.proofs.WordReadings.{text_is, same_bytes}
 use Rattle.ltx_script.proofs.SetTexts.{cut_is_some}
 use Rattle.ltx_script.proofs.Readings.{chosen, table_is, session_is, key_is, bound_is, writes_are}
 use Rattle.ltx_script.proofs.Spelt.{table_again, session_again, key_again, bound_again, value_again, writes_again, reads_again}

@@ -14,7 +14,8 @@ use Rattle.ltx_text.proofs.DecimalLemmas.{decimal_digits}
 use Rattle.ltx_script.specs.Commands.{commas, tables_of, tables_text, set_text}
 use Rattle.ltx_script.specs.Lines.{cut_at, number_in, named_tables, set_of}
 use Rattle.ltx_script.specs.Rising.{IsRisingFrom}
-use Rattle.ltx_script.proofs.ValueLemmas.{number_is, number_none, number_some, same_bytes, other_bytes, text_is}
+use Rattle.ltx_text.proofs.WordReadings.{same_bytes, other_bytes, text_is}
+use Rattle.ltx_script.proofs.ValueLemmas.{number_is, number_none, number_some}
 use Rattle.ltx_script.proofs.SetLemmas.{NoneFrom, none_in_none, none_from_more, none_with, none_so_far, with_fits, tables_with, tables_rise, same_tables}
 
 -- ---- cutting at commas

@@ -1,5 +1,5 @@
 -- What was spelt is read again.
-use Rattle.std.proofs.Common.{◌≡◌, ℕ, ◌+◌, ◌*◌, ◌^◌, ◌<◌, ◌≤◌, Bool, true, false, ◌==◌, ◌&&◌, List, [], ◌∷◌, ◌++◌, length, Some, Ok, refl, sym, ap, ◌∙◌, arith, inl, inr, length-append}
+use Rattle.std.proofs.Common.{◌≡◌, ℕ, ◌+◌, ◌*◌, ◌^◌, ◌<◌, ◌≤◌, true, false, ◌==◌, List, [], ◌∷◌, ◌++◌, length, Some, Ok, refl, sym, ap, ◌∙◌, arith, inl, inr, length-append}
 use Rattle.std.specs.Prelude.{bytes_eq, nat_lt, codes, IsTrue, All}
 use Rattle.std.specs.List.{list_all, AllByRecursion}
 use Rattle.std.specs.Int.{IsInRange}
@@ -14,41 +14,36 @@ use Rattle.ltx_model.specs.declared.commands.Verb.{Verb}
 use Rattle.ltx_model.specs.declared.commands.Verb.TheVariants as verbs
 use Rattle.ltx_model.specs.declared.commands.Command.{Command}
 use Rattle.ltx_model.specs.declared.commands.Command.TheVariants as commands
-use Rattle.ltx_model.specs.declared.commands.Line.TheVariants as lines
 use Rattle.ltx_model.specs.Tables.{all_tables}
 use Rattle.ltx_text.specs.Words.{AreBytes, is_visible, byte_spelling, is_plain, spellings, word_of}
 use Rattle.ltx_text.specs.Decimals.{decimal_of}
 use Rattle.ltx_text.proofs.DecimalLemmas.{decimal_digits, decimal_is_visible}
 use Rattle.ltx_text.proofs.WordLemmas.{word_is_some, word_is_visible, plain_spelling, escaped_spelling}
 use Rattle.ltx_script.specs.Commands.{joined, commas, tables_of, tables_text, set_text, writes_word, reads_words, verb_words, command_words, command_text, IsKey, IsBound, IsValue, IsVerb, IsCommand}
-use Rattle.ltx_script.specs.Lines.{cut_at, words_of, is_word, table_at, session_at, key_at, bound_at, value_at, writes_at, reads_at, one_or_two, two, three, long_at, get_at, scan_at, put_at, del_at, verb_at, asked_at, ask_at, command_at, said_at, most_bytes, reading, line_from, line_of}
+use Rattle.ltx_script.specs.Lines.{cut_at, words_of, is_word, table_at, session_at, key_at, bound_at, value_at, writes_at, reads_at, one_or_two, two, three, long_at, get_at, scan_at, put_at, del_at, verb_at, asked_at, ask_at, command_at, said_at, most_bytes, reading}
 use Rattle.ltx_script.specs.Rising.{IsRisingFrom}
 use Rattle.ltx_script.proofs.Parts.{no_space}
-use Rattle.ltx_script.proofs.ValueLemmas.{number_some, bytes_again, key_some, bound_some, value_some, other_bytes}
+use Rattle.ltx_text.proofs.WordReadings.{both_true, bytes_again, other_bytes}
+use Rattle.ltx_script.proofs.ValueLemmas.{number_some, key_some, bound_some, value_some}
 use Rattle.ltx_script.proofs.Readings.{ok_is}
 use Rattle.ltx_script.proofs.SetLemmas.{tables_rise}
 use Rattle.ltx_script.proofs.SetTexts.{set_again, all_text, is_all, other_text}
-
-pub both : (a b : Bool) → (a && b) ≡ true → (a ≡ true) × (b ≡ true)
-both true true e = (refl, refl)
-both true false e = absurd cc
-both false b e = absurd cc
 
 -- ---- words
 
 no_spaces : (word : List ℕ) → list_all is_visible word ≡ true → AllByRecursion (λ b. (b == 32) ≡ false) word
 no_spaces [] visible = tt
-no_spaces (b ∷ word) visible = let p = both (is_visible b) (list_all is_visible word) visible in (no_space b p.0, no_spaces word p.1)
+no_spaces (b ∷ word) visible = let p = both_true (is_visible b) (list_all is_visible word) visible in (no_space b p.0, no_spaces word p.1)
 
 word_parts : (word : List ℕ) → is_word word ≡ true → All (λ b. (b == 32) ≡ false) word
-word_parts word e = All-from_recursion (λ b. (b == 32) ≡ false) word (no_spaces word (both (nat_lt 0 (length word)) (list_all is_visible word) e).1)
+word_parts word e = All-from_recursion (λ b. (b == 32) ≡ false) word (no_spaces word (both_true (nat_lt 0 (length word)) (list_all is_visible word) e).1)
 
 -- words joined by spaces are cut where they were joined
 pub cut_joined : (word : List ℕ) (words : List (List ℕ)) → list_all is_word (word ∷ words) ≡ true → words_of (joined (word ∷ words)) ≡ word ∷ words
 unfolding cut_at
-cut_joined word [] e = slice_split_none (λ b. b == 32) word (word_parts word (both (is_word word) true e).0)
+cut_joined word [] e = slice_split_none (λ b. b == 32) word (word_parts word (both_true (is_word word) true e).0)
 cut_joined word (next ∷ words) e =
-    let p = both (is_word word) (list_all is_word (next ∷ words)) e in
+    let p = both_true (is_word word) (list_all is_word (next ∷ words)) e in
     slice_split_at (λ b. b == 32) word 32 (joined (next ∷ words)) (word_parts word p.0) refl ∙ ap (λ l. word ∷ l) (cut_joined next words p.1)
 
 word_true : (word : List ℕ) → 0 < length word → list_all is_visible word ≡ true → is_word word ≡ true
@@ -277,11 +272,6 @@ reading_again command fits =
 
 pub spelt_again : (line : List ℕ) (command : Command) → IsCommand command → line ≡ command_text command → reading line ≡ Ok command
 spelt_again line command fits is = ap reading is ∙ reading_again command fits
-
--- the spelling of a command says this command
-pub line_again : (command : Command) → IsCommand command → line_of (command_text command) ≡ lines.Good command
-unfolding line_of
-line_again command fits = ap line_from (reading_again command fits)
 
 pub one_command : (a b : Command) → IsCommand a → IsCommand b → command_text a ≡ command_text b → a ≡ b
 one_command a b first second same = ok_is a b (sym (reading_again a first) ∙ spelt_again (command_text a) b second same)

@@ -1,5 +1,5 @@
 -- Reading a line: the command with this spelling, or the first cause why there is none.
-use Rattle.std.specs.Prelude.{◌≡◌, ℕ, ◌+◌, ◌-◌, ◌*◌, Bool, ◌==◌, ◌&&◌, nat_lt, if◌then◌else◌, List, [], ◌∷◌, length, take, drop, Option, Some, None, Result, Ok, Err, ok_or, find, filter_map, fold, codes, bytes_eq}
+use Rattle.std.specs.Prelude.{◌≡◌, ℕ, Bool, ◌==◌, ◌&&◌, nat_lt, if◌then◌else◌, List, [], ◌∷◌, length, take, drop, Option, Some, None, Result, Ok, Err, ok_or, find, filter_map, fold, codes, bytes_eq}
 use Rattle.std.specs.List.{range_with_len, slice_split, list_all}
 use Rattle.ltx_model.specs.declared.commands.Op.TheVariants.{Get, Scan, Put, Del}
 use Rattle.ltx_model.specs.declared.commands.Verb.{Verb}
@@ -11,7 +11,8 @@ use Rattle.ltx_model.specs.declared.commands.Bad.TheVariants as causes
 use Rattle.ltx_model.specs.declared.commands.Line.{Line}
 use Rattle.ltx_model.specs.declared.commands.Line.TheVariants as lines
 use Rattle.ltx_model.specs.Tables.{all_tables, no_tables, with_table}
-use Rattle.ltx_text.specs.Words.{is_visible, word_of}
+use Rattle.ltx_text.specs.Readings.{bytes_of}
+use Rattle.ltx_text.specs.Words.{is_visible}
 use Rattle.ltx_text.specs.Decimals.{decimal_of}
 use Rattle.ltx_script.specs.Commands.{set_text}
 
@@ -43,25 +44,6 @@ is_word word = nat_lt 0 (length word) && list_all is_visible word
 -- the number with this decimal, of so many from the first on
 unfoldable pub number_in : ℕ → ℕ → List ℕ → Option ℕ
 number_in first count word = find (λ n. bytes_eq (decimal_of n) word) (range_with_len first count)
-
--- the number of a hexadecimal digit
-abbrev pub hex_value : ℕ → ℕ
-hex_value digit = if nat_lt digit 65 then digit - 48 else digit - 55
-
--- a text with each `%` and the two digits behind it as one byte
-abbrev pub unescaped : List ℕ → List ℕ
-unescaped [] = []
-unescaped (b ∷ []) = b ∷ []
-unescaped (b ∷ h ∷ []) = b ∷ h ∷ []
-unescaped (b ∷ h ∷ l ∷ rest) = if b == 37 then (hex_value h * 16 + hex_value l) ∷ unescaped rest else b ∷ unescaped (h ∷ l ∷ rest)
-
--- these bytes, where they are bytes and this is their word
-abbrev pub if_word_of : List ℕ → List ℕ → Option (List ℕ)
-if_word_of bytes word = if list_all (λ b. nat_lt b 256) bytes && bytes_eq (word_of bytes) word then Some bytes else None
-
--- the byte string with this word
-unfoldable pub bytes_of : List ℕ → Option (List ℕ)
-bytes_of word = if bytes_eq word (codes "%") then Some [] else if_word_of (unescaped word) word
 
 -- a byte string, where it is no longer than this
 abbrev pub within : ℕ → Option (List ℕ) → Option (List ℕ)
@@ -225,7 +207,7 @@ ask_at word words = do
   verb ← asked_at words
   Ok (commands.Ask session verb)
 
--- the words of a command
+-- the command of this first word and the words behind it
 unfoldable pub command_at : List ℕ → List (List ℕ) → Result Command Bad
 command_at word words =
     if bytes_eq word (codes "epoch") then alone words commands.Epoch

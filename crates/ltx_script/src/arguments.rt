@@ -1,18 +1,16 @@
 //! The arguments of a verb, each from its word, with the cause where the word is no spelling.
 
-ghost use Rattle.std.specs.Prelude.{◌≡◌, ◌<◌, ◌≤◌, ◌+◌, ◌^◌, ◌≢◌, ℕ, List, length, map, Option, Some, None, IfSome, IfNone, IfOk, option_map, option_copied};
-ghost use Rattle.ltx_text.specs.Words.{AreBytes};
+ghost use Rattle.std.specs.Prelude.{◌≡◌, ◌<◌, ◌≤◌, ◌+◌, ◌^◌, ◌≢◌, ℕ, List, map, Option, Some, None, IfSome, IfNone, option_copied};
 ghost use Rattle.ltx_text.specs.Decimals.{decimal_of};
 ghost use Rattle.ltx_script.specs.Commands.{tables_of};
 ghost use Rattle.ltx_script.specs.Rising.{IsRisingFrom};
-ghost use Rattle.ltx_script.specs.Lines.{cut_at, number_in, bytes_of, set_of, session_at, table_at, key_at, bound_at, value_at, writes_at, reads_at};
+ghost use Rattle.ltx_script.specs.Lines.{cut_at, number_in, set_of, session_at, table_at, key_at, bound_at, value_at, writes_at, reads_at};
 ghost use Rattle.ltx_script.specs.Readers.{Gives};
 
 use crate::cuts::cut;
 use crate::refusal::Refusal;
 use ltx_model::bytes::{Bound, Key, Value};
 use ltx_model::commands::Bad;
-use ltx_model::memory::NoMemory;
 use ltx_model::numbers::{Session, Table};
 use ltx_model::tables::TableSet;
 use ltx_text::decimals::decimal;
@@ -64,28 +62,12 @@ pub(crate) fn table_of(word: &[u8]) -> Result<Table, Refusal>
     named_table(word).ok_or(Refusal::Cause(Bad::Table))
 }
 
-/// What the type of bytes says, as a clause.
-pub(crate) fn are_bytes(bytes: &[u8])
-    ensures { AreBytes bytes.now }
-{}
-
-/// The byte string with this word.
-fn bytes_of(alloc: Global, word: &[u8]) -> Result<Option<Vec<u8>>, NoMemory>
-    ensures { IfOk result (λ found. bytes_of word.now ≡ option_map (λ bytes. bytes.items) found) }
-{
-    let Some(bytes) = decode_word(alloc, word)? else {
-        return Ok(None);
-    };
-    are_bytes(&bytes);
-    Ok(Some(bytes))
-}
-
 /// The key with this word.
 #[tactic(auto, using(crate::proofs::ValueLemmas::no_key, crate::proofs::ValueLemmas::key_some, crate::proofs::ValueLemmas::key_out))]
 pub(crate) fn key_of(alloc: Global, word: &[u8]) -> Result<Key, Refusal>
     ensures { Gives (λ key. key) result (key_at word.now) }
 {
-    let Some(bytes) = bytes_of(alloc, word)? else {
+    let Some(bytes) = decode_word(alloc, word)? else {
         return Err(Refusal::Cause(Bad::Key));
     };
     Key::from_bytes(bytes).map_err(|_| Refusal::Cause(Bad::Key))
@@ -96,7 +78,7 @@ pub(crate) fn key_of(alloc: Global, word: &[u8]) -> Result<Key, Refusal>
 pub(crate) fn bound_of(alloc: Global, word: &[u8]) -> Result<Bound, Refusal>
     ensures { Gives (λ bound. bound) result (bound_at word.now) }
 {
-    let Some(bytes) = bytes_of(alloc, word)? else {
+    let Some(bytes) = decode_word(alloc, word)? else {
         return Err(Refusal::Cause(Bad::Key));
     };
     Bound::from_bytes(bytes).map_err(|_| Refusal::Cause(Bad::Key))
@@ -107,7 +89,7 @@ pub(crate) fn bound_of(alloc: Global, word: &[u8]) -> Result<Bound, Refusal>
 pub(crate) fn value_of(alloc: Global, word: &[u8]) -> Result<Value, Refusal>
     ensures { Gives (λ value. value) result (value_at word.now) }
 {
-    let Some(bytes) = bytes_of(alloc, word)? else {
+    let Some(bytes) = decode_word(alloc, word)? else {
         return Err(Refusal::Cause(Bad::Value));
     };
     Value::from_bytes(bytes).map_err(|_| Refusal::Cause(Bad::Value))

@@ -1,6 +1,6 @@
 //! Cutting a line at its spaces, and a set of tables at its commas, without a copy.
 
-ghost use Rattle.std.specs.Prelude.{◌≡◌, ◌<◌, ◌==◌, ◌&&◌, ℕ, List, length, nat_lt, ◌∷◌, [], Option, Some, None, MatchOption, option_copied};
+ghost use Rattle.std.specs.Prelude.{◌≡◌, ◌<◌, ◌==◌, ◌&&◌, length, ◌∷◌, Option, Some, None, MatchOption, option_copied};
 ghost use Rattle.std.specs.List.{list_all, position};
 ghost use Rattle.ltx_text.specs.Words.{is_visible};
 ghost use Rattle.ltx_script.specs.Lines.{cut_at, parts_after, words_of, words_after, is_word, alone, next_word, at_most_one, one_or_two, two, three};

@@ -1,14 +1,14 @@
 //! What the types of a command's parts say of them, as clauses: each command is within its limits. So what is said of
 //! spellings of commands within their limits is said of every command.
 
-ghost use Rattle.std.specs.Prelude.{◌<◌, ◌≤◌, ◌^◌, ℕ, List, length};
+ghost use Rattle.std.specs.Prelude.{◌<◌, ◌^◌};
 ghost use Rattle.ltx_script.specs.Commands.{IsBound, IsCommand, IsKey, IsOperation, IsValue, IsVerb};
 
-use crate::arguments::are_bytes;
 use ltx_model::bytes::{Bound, Key, Value};
 use ltx_model::commands::{Command, Op, Verb};
 use ltx_model::numbers::Table;
 use ltx_model::tables::TableSet;
+use ltx_text::words::are_bytes;
 
 /// There are 64 tables.
 fn table(table: Table)

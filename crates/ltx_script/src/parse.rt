@@ -89,7 +89,7 @@ pub fn parse_line(alloc: Global, line: &[u8]) -> Result<Line, NoMemory>
     }
 }
 
-/// What callers rest on: a spelling is of one command, none is longer than a line, and a line with a cause says it.
+/// What callers may rest on: a spelling is of one command, none is longer than a line, and a line with a cause says it.
 #[tactic(auto, using(crate::proofs::Spelt::one_command, crate::proofs::Spelt::fits_a_line, crate::proofs::OneCause::one_cause))]
 pub fn spellings_are_one()
     ensures one { (a b : Command) → IsCommand a → IsCommand b → command_text a ≡ command_text b → a ≡ b }

@@ -1,12 +1,12 @@
 //! Pieces of a command's text: fixed words, and numbers, byte strings and sets of tables after a space. Each is
 //! appended to a text; where memory is wanting, the text keeps what it held and may have a front of the piece behind it.
 
-ghost use Rattle.std.specs.Prelude.{◌≡◌, ◌++◌, ◌+◌, ◌-◌, ◌<◌, ℕ, List, length, take, filter, OnOk, OnErr, ◌∷◌, [], codes, if◌then◌else◌};
+ghost use Rattle.std.specs.Prelude.{◌≡◌, ◌++◌, ◌+◌, ◌-◌, ◌<◌, length, take, filter, OnOk, ◌∷◌, [], if◌then◌else◌};
 ghost use Rattle.std.specs.List.{range_with_len};
 ghost use Rattle.ltx_model.specs.Tables.{has_table};
 ghost use Rattle.ltx_text.specs.Words.{word_of};
 ghost use Rattle.ltx_text.specs.Decimals.{decimal_of};
-ghost use Rattle.ltx_script.specs.Commands.{commas, tables_of, tables_text, set_text};
+ghost use Rattle.ltx_script.specs.Commands.{commas, set_text};
 
 use ltx_model::memory::NoMemory;
 use ltx_model::numbers::Table;

@@ -1,8 +1,6 @@
 //! Printing a command: its words, with one space between two.
 
-ghost use Rattle.std.specs.Prelude.{◌≡◌, ◌++◌, ℕ, List, length, take, OnOk, OnErr, ◌∷◌, [], codes};
-ghost use Rattle.ltx_text.specs.Words.{word_of};
-ghost use Rattle.ltx_text.specs.Decimals.{decimal_of};
+ghost use Rattle.std.specs.Prelude.{◌≡◌, ◌++◌, length, take, OnOk, OnErr, ◌∷◌, codes};
 ghost use Rattle.ltx_script.specs.Commands.{joined, set_text, reads_words, operation_words, verb_words, command_text};
 
 use crate::pieces::{put_bytes, put_number, put_set, put_text};

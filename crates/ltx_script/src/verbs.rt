@@ -1,7 +1,7 @@
 //! What a session asks, from the words behind its number: one function a verb with arguments. The command is written
 //! in place: it is 72 bytes, which each `Result` on its way would copy. After a refusal it may be any command.
 
-ghost use Rattle.std.specs.Prelude.{◌≡◌, ℕ, List, Option, option_copied};
+ghost use Rattle.std.specs.Prelude.{Option, option_copied};
 ghost use Rattle.ltx_script.specs.Lines.{words_after, alone, long_at, get_at, scan_at, put_at, del_at, verb_at, asked_at};
 ghost use Rattle.ltx_script.specs.Readers.{Gives, asked};
 

@@ -4,3 +4,4 @@ pub mod LineGiven
 pub mod LineLemmas
 pub mod LineRuns
 pub mod WordLemmas
+pub mod WordReadings

@@ -23,9 +23,6 @@ escaped_spelling b escaped = rw escaped refl
 pub hex_digit_one : (d e : ℕ) → hex_digit d ≡ hex_digit e → d ≡ e
 hex_digit_one d e same = grind arith
 
-pub plain_is_byte : (b : ℕ) → is_plain b ≡ true → b < 256
-plain_is_byte b plain = grind arith
-
 -- two texts that begin with a byte's spelling begin with the same byte
 pub one_front : (b c : ℕ) (s t : List ℕ) → byte_spelling b ++ s ≡ byte_spelling c ++ t → (b ≡ c) × (s ≡ t)
 one_front b c s t same =

@@ -2,4 +2,5 @@ pub mod Block
 pub mod Decimals
 pub mod Lines
 pub mod Pieces
+pub mod Readings
 pub mod Words

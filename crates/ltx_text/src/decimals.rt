@@ -17,7 +17,7 @@ pub fn put_decimal(n: u64, out: &mut Vec<u8>) -> Result<(), NoMemory>
     Ok(())
 }
 
-/// What callers rest on when they join decimals by spaces: each stands for one number, is not empty, and
+/// What callers may rest on when they join decimals by spaces: each stands for one number, is not empty, and
 /// has visible bytes alone.
 #[tactic(auto, using(crate::proofs::DecimalLemmas::decimal_spelling_injective, crate::proofs::DecimalLemmas::decimal_is_some, crate::proofs::DecimalLemmas::decimal_is_visible))]
 pub fn decimals_can_be_joined()

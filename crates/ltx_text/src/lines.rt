@@ -1,6 +1,6 @@
 //! The lines of a source, one at a time, for whoever runs a script.
-//! The bytes are taken in blocks, a read is made only where no whole line is held, and the held bytes
-//! outlive a fault. A line that is held whole is lent to whoever wants no copy.
+//! The bytes are taken in blocks, a read is made only where no whole line is held, and after a fault the
+//! pieces still to come are the same. A line that is held whole is lent to whoever wants no copy.
 ghost use Rattle.std.specs.Prelude.{◌≡◌, ℕ, List, Option, Some, ◌+◌, ◌-◌, ◌≤◌, ◌<◌, ◌↔◌, [], ◌∷◌, ◌++◌, length, take, drop, IfOk, IfSome, IfNone, OnOk, OnErr, IsErrOf, MatchBool, MatchOption};
 ghost use Rattle.std.specs.Io.KnownBytes.{IsAtEnd};
 ghost use Rattle.ltx_outside.specs.Faults.{Rose};
@@ -58,7 +58,8 @@ impl Lines {
     /// The next piece of the script.
     ///
     /// After `ReadFault` and `NoMemory` the bytes already taken stay, so the pieces still to come are the
-    /// same. `TooMuch` comes where more than the limit was taken, at this call and at every later one.
+    /// same; of a line that is already too long its first 4,097 bytes stay, which say so. `TooMuch` comes
+    /// where more than the limit was taken, at this call and at every later one.
     pub fn next<S: Source>(&mut self, source: &mut S) -> Result<Piece, TextFault>
         ensures cuts { Cuts self.old self.new (S.left source.old) (S.left source.new) (given result) }
         ensures limit { self.new.limit ≡ self.old.limit }
@@ -234,7 +235,7 @@ impl Lines {
     }
 }
 
-/// What a caller rests on that asks again and again: the pieces are those of the bytes, in order.
+/// What a caller may rest on that asks again and again: the pieces are those of the bytes, in order.
 pub fn pieces_come_in_order()
     // Several calls give what one call gives that takes and gives all of theirs.
     ensures none { (state : LinesState) (left : Option (List ℕ)) → Cuts state state left left [] }

@@ -1,8 +1,9 @@
 //! Words: each byte string has one spelling in visible bytes, so that words can be joined by spaces.
 //! A visible byte other than `%` stands for itself, every other byte is `%HH` in upper case, and the
 //! empty string is `%`.
-ghost use Rattle.std.specs.Prelude.{◌≡◌, ◌≢◌, ◌++◌, ◌≤◌, ◌<◌, ◌/◌, ◌%◌, ℕ, List, length, take, OnOk, OnErr, IfOk, IfSome, IfNone, IsFalse, IsSomeAnd};
+ghost use Rattle.std.specs.Prelude.{◌≡◌, ◌≢◌, ◌++◌, ◌<◌, ◌/◌, ◌%◌, ℕ, List, length, take, OnOk, OnErr, IfOk, IfSome, IfNone, IsFalse, IsSomeAnd, option_map};
 ghost use Rattle.std.specs.List.{list_all};
+ghost use Rattle.ltx_text.specs.Readings.{bytes_of};
 ghost use Rattle.ltx_text.specs.Words.{AreBytes, AreVisible, byte_spelling, hex_digit, is_plain, spellings, word_of};
 
 use ltx_model::memory::NoMemory;
@@ -21,7 +22,7 @@ pub fn encode_word(bytes: &[u8], out: &mut Vec<u8>) -> Result<(), NoMemory>
     done
 }
 
-/// What callers rest on when they join words by spaces: each word stands for one byte string, is not
+/// What callers may rest on when they join words by spaces: each word stands for one byte string, is not
 /// empty, and has visible bytes alone.
 #[tactic(auto, using(crate::proofs::WordLemmas::word_spelling_injective, crate::proofs::WordLemmas::word_is_some, crate::proofs::WordLemmas::word_is_visible))]
 pub fn words_can_be_joined()
@@ -70,7 +71,8 @@ fn put_byte(byte: u8, out: &mut Vec<u8>) -> Result<(), NoMemory>
     Ok(())
 }
 
-/// Whether all bytes stand for themselves in a word: they are visible, and none is `%`. They are tested eight at a time.
+/// Whether all bytes stand for themselves in a word: they are visible, and none is `%`. True
+/// where there are none, though the word of no bytes is `%`. They are tested eight at a time.
 pub fn are_plain(bytes: &[u8]) -> bool
     ensures { result ≡ list_all is_plain bytes.now }
 {
@@ -136,6 +138,26 @@ pub fn decode_word(alloc: Global, word: &[u8]) -> Result<Option<Vec<u8>>, NoMemo
     // What was printed is read again.
     ensures again { (bytes : List ℕ) → AreBytes bytes → word.now ≡ word_of bytes →
         IfOk result (λ found. IsSomeAnd found (λ read. read.items ≡ bytes)) }
+    // The whole answer is a function of the word.
+    ensures exact { IfOk result (λ found. bytes_of word.now ≡ option_map (λ bytes. bytes.items) found) }
+{
+    let Some(bytes) = read_word(alloc, word)? else {
+        return Ok(None);
+    };
+    are_bytes(&bytes);
+    Ok(Some(bytes))
+}
+
+/// What the type of bytes says, as a clause: each is below 256.
+pub fn are_bytes(bytes: &[u8])
+    ensures { AreBytes bytes.now }
+{}
+
+/// The bytes whose word this is. None exactly where it is no bytes' word.
+fn read_word(alloc: Global, word: &[u8]) -> Result<Option<Vec<u8>>, NoMemory>
+    ensures found { IfOk result (λ found. IfSome found (λ bytes. word.now ≡ word_of bytes.items)) }
+    ensures none { IfOk result (λ found. IfNone found ((bytes : List ℕ) → AreBytes bytes →
+        word.now ≢ word_of bytes)) }
 {
     if word.is_empty() {
         return Ok(None);

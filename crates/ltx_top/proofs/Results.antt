@@ -1,5 +1,5 @@
 -- What a call in a run leaves, by what it returned.
-use Rattle.std.proofs.Common.{◌≡◌, ◌≢◌, ℕ, ◌+◌, ◌<◌, ◌≤◌, Bool, true, false, nat_le, ◌||◌, ◌⊎◌, List, [], ◌∷◌, ◌++◌, length, take, drop, Option, Some, None, Result, Ok, Err, IfSome, IfOk, IfErr, OnOk, OnErr, IsErrOf, refl, sym, ap, ◌∙◌, subst, arith, inl, inr}
+use Rattle.std.proofs.Common.{◌≡◌, ℕ, ◌+◌, ◌<◌, ◌≤◌, Bool, true, false, nat_le, ◌||◌, List, [], ◌∷◌, ◌++◌, length, take, drop, Option, Some, None, Result, Ok, Err, IfOk, IfErr, OnOk, OnErr, IsErrOf, refl, sym, ap, ◌∙◌, subst, arith, inl, inr}
 use Rattle.std.proofs.lemmas.Bool.{cases_lt, leb-false}
 use Rattle.std.proofs.lemmas.List.{append-nil, length-drop, length-map}
 use Rattle.std.specs.Io.KnownBytes.{Appends, IsAtEnd}
@@ -8,7 +8,7 @@ use Rattle.ltx_model.specs.declared.replies.Entry.{Entry}
 use Rattle.ltx_model.specs.States.{Base, order}
 use Rattle.ltx_model.specs.Histories.{state}
 use Rattle.ltx_outside.specs.Faults.{Rose}
-use Rattle.ltx_outside.proofs.Counts.{Rose-earlier, Rose-later}
+use Rattle.ltx_outside.proofs.Counts.{Rose-later}
 use Rattle.ltx_core.specs.Views.{CoreView}
 use Rattle.ltx_core.specs.Stands.{StandsFor}
 use Rattle.ltx_text.specs.Lines.{LinesState, Cuts, IsFirstFeed, NoFeedAhead, feeds, fresh, piece_of, to_go}
@@ -22,7 +22,7 @@ use Rattle.ltx_top.specs.declared.status.Stop.{Stop}
 use Rattle.ltx_top.specs.declared.status.Stop.TheVariants as stops
 use Rattle.ltx_top.specs.Transcripts.{empty_base, line_of_piece, entry_text, ending, ending_of}
 use Rattle.ltx_top.specs.Runs.{most_of_script, took, Ran}
-use Rattle.ltx_top.specs.Endings.{Stops, status_number}
+use Rattle.ltx_top.specs.Endings.{Stops}
 use Rattle.ltx_top.specs.Progress.{Devices, Hand, Progress, Halted, Ends, RoseAt, Served}
 use Rattle.ltx_text.specs.declared.piece.Piece.{Piece}
 use Rattle.ltx_text.specs.Pieces.{given}
@@ -159,18 +159,6 @@ rose_later stops.Source s s' a b c less rose = rose s s'
 rose_later stops.Sink s s' a b c less rose = Rose-later a b c less (rose s s')
 rose_later stops.TooMuch s s' a b c less rose = tt
 
-pub rose_past : (stop : Stop) (a b c k l m : ℕ) → a ≤ b → k ≤ l → RoseAt stop b c l m → RoseAt stop a c k m
-rose_past stops.NoMemory a b c k l m less fewer rose = tt
-rose_past stops.Source a b c k l m less fewer rose = Rose-later a b c less rose
-rose_past stops.Sink a b c k l m less fewer rose = Rose-later k l m fewer rose
-rose_past stops.TooMuch a b c k l m less fewer rose = tt
-
-pub rose_before : (stop : Stop) (s s' a b c : ℕ) → b ≤ c → RoseAt stop s s' a b → RoseAt stop s s' a c
-rose_before stops.NoMemory s s' a b c less rose = tt
-rose_before stops.Source s s' a b c less rose = rose
-rose_before stops.Sink s s' a b c less rose = Rose-earlier a b c rose less
-rose_before stops.TooMuch s s' a b c less rose = tt
-
 -- ---- the end
 
 module _ (before after : Option (List ℕ)) (hand : Hand) (text : List ℕ)
@@ -210,9 +198,6 @@ pub gave_up : (stop : Stop) → stop ≡ stops.NoMemory → (start : Devices) (l
     → Stops stop start.left left start.written after
 gave_up stop is start left before after rest front h = subst (λ (s : Stop). Stops s start.left left start.written after) (sym is) (halted_end start left before after rest front h)
 
-pub calm_rose : (stop : Stop) → stop ≡ stops.NoMemory → (s s' k k' : ℕ) → RoseAt stop s s' k k'
-calm_rose stop is s s' k k' = subst (λ (x : Stop). RoseAt x s s' k k') (sym is) tt
-
 -- all lines were answered, and the ending was printed, or not
 module _ (Began : Devices → Type 0) (left before after : Option (List ℕ)) (hand : Hand) (on : (start : Devices) → Began start → Progress start (record { left = left; written = before }) hand []) where
   pub worked_ran : {T : Type 0} (r : Result T Stop) (bad : Bool) → bad ≡ hand.malformed → hand.reader.held ≡ [] → IsAtEnd left
@@ -247,136 +232,7 @@ end_stops stops.Source start now text e = e
 end_stops stops.Sink start now text e = (halted_stops start now e.0 e.1, halted_within start now e.0 e.1)
 end_stops stops.TooMuch start now text e = e
 
--- ---- the number of each ending
-
-module _ (left_old left_new written_old written_new : Option (List ℕ)) (r : Result Bool Stop)
-    (on : IfOk r (λ bad. Ran left_old left_new written_old written_new bad × (took left_old left_new ≤ most_of_script)))
-    (halts : IfErr r (λ stop. Stops stop left_old left_new written_old written_new)) where
-  pub number_ran : (bad : Bool) → status_number r ≡ status_number (Ok bad) → Ran left_old left_new written_old written_new bad
-  number_ran bad is = by_result r bad on is where
-    by_result : (x : Result Bool Stop) (b : Bool) → IfOk x (λ bad. Ran left_old left_new written_old written_new bad × (took left_old left_new ≤ most_of_script)) → status_number x ≡ status_number (Ok b) → Ran left_old left_new written_old written_new b
-    by_result (Ok false) false on e = on.0
-    by_result (Ok true) true on e = on.0
-    by_result (Ok false) true on e = absurd (omega (arith, e))
-    by_result (Ok true) false on e = absurd (omega (arith, e))
-    by_result (Err stops.NoMemory) false on e = absurd (omega (arith, e))
-    by_result (Err stops.NoMemory) true on e = absurd (omega (arith, e))
-    by_result (Err stops.Source) false on e = absurd (omega (arith, e))
-    by_result (Err stops.Source) true on e = absurd (omega (arith, e))
-    by_result (Err stops.Sink) false on e = absurd (omega (arith, e))
-    by_result (Err stops.Sink) true on e = absurd (omega (arith, e))
-    by_result (Err stops.TooMuch) false on e = absurd (omega (arith, e))
-    by_result (Err stops.TooMuch) true on e = absurd (omega (arith, e))
-
-  pub number_stops : (stop : Stop) → status_number r ≡ status_number (Err stop) → Stops stop left_old left_new written_old written_new
-  number_stops stop is = by_result r stop halts is where
-    by_result : (x : Result Bool Stop) (s : Stop) → IfErr x (λ stop. Stops stop left_old left_new written_old written_new) → status_number x ≡ status_number (Err s) → Stops s left_old left_new written_old written_new
-    by_result (Err stops.NoMemory) stops.NoMemory h e = h
-    by_result (Err stops.Source) stops.Source h e = h
-    by_result (Err stops.Sink) stops.Sink h e = h
-    by_result (Err stops.TooMuch) stops.TooMuch h e = h
-    by_result (Ok false) stops.NoMemory h e = absurd (omega (arith, e))
-    by_result (Ok false) stops.Source h e = absurd (omega (arith, e))
-    by_result (Ok false) stops.Sink h e = absurd (omega (arith, e))
-    by_result (Ok false) stops.TooMuch h e = absurd (omega (arith, e))
-    by_result (Ok true) stops.NoMemory h e = absurd (omega (arith, e))
-    by_result (Ok true) stops.Source h e = absurd (omega (arith, e))
-    by_result (Ok true) stops.Sink h e = absurd (omega (arith, e))
-    by_result (Ok true) stops.TooMuch h e = absurd (omega (arith, e))
-    by_result (Err stops.NoMemory) stops.Source h e = absurd (omega (arith, e))
-    by_result (Err stops.NoMemory) stops.Sink h e = absurd (omega (arith, e))
-    by_result (Err stops.NoMemory) stops.TooMuch h e = absurd (omega (arith, e))
-    by_result (Err stops.Source) stops.NoMemory h e = absurd (omega (arith, e))
-    by_result (Err stops.Source) stops.Sink h e = absurd (omega (arith, e))
-    by_result (Err stops.Source) stops.TooMuch h e = absurd (omega (arith, e))
-    by_result (Err stops.Sink) stops.NoMemory h e = absurd (omega (arith, e))
-    by_result (Err stops.Sink) stops.Source h e = absurd (omega (arith, e))
-    by_result (Err stops.Sink) stops.TooMuch h e = absurd (omega (arith, e))
-    by_result (Err stops.TooMuch) stops.NoMemory h e = absurd (omega (arith, e))
-    by_result (Err stops.TooMuch) stops.Source h e = absurd (omega (arith, e))
-    by_result (Err stops.TooMuch) stops.Sink h e = absurd (omega (arith, e))
-
-  -- where more was taken than a script may have, the number is 9
-  pub number_past : most_of_script < took left_old left_new → status_number r ≡ 9
-  number_past past = by_result r on halts where
-    by_result : (x : Result Bool Stop) → IfOk x (λ bad. Ran left_old left_new written_old written_new bad × (took left_old left_new ≤ most_of_script)) → IfErr x (λ stop. Stops stop left_old left_new written_old written_new) → status_number x ≡ 9
-    by_result (Ok bad) on halts = absurd (omega (arith, past, on.1))
-    by_result (Err stops.NoMemory) on halts = absurd (omega (arith, past, halts.1))
-    by_result (Err stops.Source) on halts = absurd (omega (arith, past, halts.1))
-    by_result (Err stops.Sink) on halts = absurd (omega (arith, past, halts.1))
-    by_result (Err stops.TooMuch) on halts = refl
-
-pub number_rose : (r : Result Bool Stop) (s s' k k' : ℕ) → IfErr r (λ stop. RoseAt stop s s' k k') → (stop : Stop) → status_number r ≡ status_number (Err stop) → RoseAt stop s s' k k'
-number_rose (Err stops.NoMemory) s s' k k' rose stop e = by_stop stop e where
-  by_stop : (x : Stop) → 3 ≡ status_number (Err x) → RoseAt x s s' k k'
-  by_stop stops.NoMemory e = tt
-  by_stop stops.Source e = absurd (omega (arith, e))
-  by_stop stops.Sink e = absurd (omega (arith, e))
-  by_stop stops.TooMuch e = tt
-number_rose (Err stops.Source) s s' k k' rose stop e = by_stop stop e where
-  by_stop : (x : Stop) → 4 ≡ status_number (Err x) → RoseAt x s s' k k'
-  by_stop stops.NoMemory e = tt
-  by_stop stops.Source e = rose
-  by_stop stops.Sink e = absurd (omega (arith, e))
-  by_stop stops.TooMuch e = tt
-number_rose (Err stops.Sink) s s' k k' rose stop e = by_stop stop e where
-  by_stop : (x : Stop) → 5 ≡ status_number (Err x) → RoseAt x s s' k k'
-  by_stop stops.NoMemory e = tt
-  by_stop stops.Source e = absurd (omega (arith, e))
-  by_stop stops.Sink e = rose
-  by_stop stops.TooMuch e = tt
-number_rose (Err stops.TooMuch) s s' k k' rose stop e = by_stop stop e where
-  by_stop : (x : Stop) → 9 ≡ status_number (Err x) → RoseAt x s s' k k'
-  by_stop stops.NoMemory e = tt
-  by_stop stops.Source e = absurd (omega (arith, e))
-  by_stop stops.Sink e = absurd (omega (arith, e))
-  by_stop stops.TooMuch e = tt
-number_rose (Ok false) s s' k k' rose stop e = by_stop stop e where
-  by_stop : (x : Stop) → 0 ≡ status_number (Err x) → RoseAt x s s' k k'
-  by_stop stops.NoMemory e = tt
-  by_stop stops.Source e = absurd (omega (arith, e))
-  by_stop stops.Sink e = absurd (omega (arith, e))
-  by_stop stops.TooMuch e = tt
-number_rose (Ok true) s s' k k' rose stop e = by_stop stop e where
-  by_stop : (x : Stop) → 1 ≡ status_number (Err x) → RoseAt x s s' k k'
-  by_stop stops.NoMemory e = tt
-  by_stop stops.Source e = absurd (omega (arith, e))
-  by_stop stops.Sink e = absurd (omega (arith, e))
-  by_stop stops.TooMuch e = tt
-
--- each number is one of six, and none of them is 2
-pub number_known : (r : Result Bool Stop) → status_number r ≢ 2
-number_known (Ok false) e = omega (arith, e)
-number_known (Ok true) e = omega (arith, e)
-number_known (Err stops.NoMemory) e = omega (arith, e)
-number_known (Err stops.Source) e = omega (arith, e)
-number_known (Err stops.Sink) e = omega (arith, e)
-number_known (Err stops.TooMuch) e = omega (arith, e)
-
-pub number_bound : (r : Result Bool Stop) → (status_number r ≤ 5) ⊎ (status_number r ≡ 9)
-number_bound (Ok false) = inl (omega arith)
-number_bound (Ok true) = inl (omega arith)
-number_bound (Err stops.NoMemory) = inl (omega arith)
-number_bound (Err stops.Source) = inl (omega arith)
-number_bound (Err stops.Sink) = inl (omega arith)
-number_bound (Err stops.TooMuch) = inr refl
-
-took_few : (bytes : List ℕ) (new : Option (List ℕ)) → took (Some bytes) new ≤ length bytes
-took_few bytes None = omega arith
-took_few bytes (Some rest) = omega arith
-
+-- nothing was taken
 pub took_nothing : (left : Option (List ℕ)) → took left left ≡ 0
 took_nothing None = refl
 took_nothing (Some bytes) = omega arith
-
--- with no fault and a script of at most this length
-pub number_complete : (old new written_old written_new : Option (List ℕ)) (s s' k k' : ℕ) (r : Result Bool Stop) → IfErr r (λ stop. Stops stop old new written_old written_new) → IfErr r (λ stop. RoseAt stop s s' k k')
-    → (Rose s s' → ⊥) → (Rose k k' → ⊥) → (bytes : List ℕ) → old ≡ Some bytes → length bytes ≤ most_of_script → (status_number r ≤ 1) ⊎ (status_number r ≡ 3)
-number_complete old new written_old written_new s s' k k' (Ok false) halts rose still calm bytes is few = inl (omega arith)
-number_complete old new written_old written_new s s' k k' (Ok true) halts rose still calm bytes is few = inl (omega arith)
-number_complete old new written_old written_new s s' k k' (Err stops.NoMemory) halts rose still calm bytes is few = inr refl
-number_complete old new written_old written_new s s' k k' (Err stops.Source) halts rose still calm bytes is few = absurd (still rose)
-number_complete old new written_old written_new s s' k k' (Err stops.Sink) halts rose still calm bytes is few = absurd (calm rose)
-number_complete old new written_old written_new s s' k k' (Err stops.TooMuch) halts rose still calm bytes is few =
-    let past : most_of_script < took (Some bytes) new = subst (λ (o : Option (List ℕ)). IfSome o (λ b. most_of_script < took o new)) is halts.1 in
-    absurd (omega (arith, past, took_few bytes new, few))

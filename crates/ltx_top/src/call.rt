@@ -1,12 +1,12 @@
 //! The top call.
 
-ghost use Rattle.std.specs.Prelude.{◌≡◌, ◌≢◌, ◌≤◌, ◌<◌, ◌↔◌, ◌⊎◌, ℕ, List, Option, Some, true, false, Bool, Ok, Err, map, length, [], ◌∷◌, codes, string_bytes, IfOk, IfErr, IfSome};
+ghost use Rattle.std.specs.Prelude.{◌≡◌, ◌≢◌, ◌≤◌, ◌<◌, ◌↔◌, ◌⊎◌, ℕ, List, Some, true, false, Ok, Err, map, length, [], ◌∷◌, codes, string_bytes, IfOk, IfErr, IfSome};
 ghost use Rattle.ltx_outside.specs.Faults.{Rose};
 ghost use Rattle.ltx_top.specs.Runs.{Cut, Ran, Stopped, most_of_script, took};
 ghost use Rattle.ltx_top.specs.Endings.{Stops, status_number};
 ghost use Rattle.ltx_top.specs.Progress.{RoseAt};
 
-use crate::session::Session;
+use crate::runner::Runner;
 use crate::status::{Status, Stop};
 use crate::words::is_run;
 use ltx_outside::{Disk, Sink, Source};
@@ -20,11 +20,11 @@ fn run_script<S: Source, K: Sink>(alloc: Global, source: &mut S, sink: &mut K) -
     ensures source_counted { S.faults source.old ≤ S.faults source.new }
     ensures sink_counted { K.faults sink.old ≤ K.faults sink.new }
 {
-    match Session::new(alloc) {
+    match Runner::new(alloc) {
         Err(_) => Err(Stop::NoMemory),
-        Ok(mut session) => match session.work(source, sink) {
+        Ok(mut runner) => match runner.work(source, sink) {
             Err(stop) => Err(stop),
-            Ok(()) => Ok(session.responder.malformed),
+            Ok(()) => Ok(runner.responder.malformed),
         },
     }
 }

@@ -1,4 +1,4 @@
-//! The top call: a script is answered line by line, and each entry is printed before any later input is read.
+//! The top call: a script is answered line by line, and each entry is printed before more of the script is read.
 #![tactic(auto)]
 
 mod answer;
@@ -7,7 +7,7 @@ mod ending;
 mod entries;
 mod output;
 mod responder;
-mod session;
+mod runner;
 mod status;
 mod turns;
 mod words;

@@ -1,6 +1,6 @@
 //! What answers the lines of a run: its core, and the text of their entries that is not written yet.
 
-ghost use Rattle.std.specs.Prelude.{◌≡◌, ◌||◌, ◌≤◌, ℕ, List, Option, [], ◌∷◌, ◌++◌, false, IfOk, OnOk, OnErr, IfErr};
+ghost use Rattle.std.specs.Prelude.{◌≡◌, ◌≤◌, ℕ, List, Option, [], ◌∷◌, ◌++◌, false, IfOk, OnOk, OnErr, IfErr};
 ghost use Rattle.ltx_model.specs.declared.replies.Entry.{Entry};
 ghost use Rattle.ltx_model.specs.Histories.{state};
 ghost use Rattle.ltx_core.specs.Stands.{StandsFor};
@@ -29,7 +29,7 @@ use std::alloc::Global;
 pub(crate) struct Responder {
     alloc: Global,
     core: Core,
-    /// What was printed and not handed to the sink yet.
+    /// What was gathered and not handed to the sink yet.
     pub text: Vec<u8>,
     /// Whether some reply is `bad`.
     pub malformed: bool,

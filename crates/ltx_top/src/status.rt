@@ -1,7 +1,5 @@
 //! How a run ended.
 
-use ltx_model::memory::NoMemory;
-
 /// The exit status of a run. 0: all was answered and every line was well formed; 1: all was answered and some line was
 /// malformed; 2: the words are no command; 3: want of memory; 4: the source failed; 5: the sink failed;
 /// 9: the script has more than 4,294,967,295 bytes.
@@ -17,15 +15,4 @@ pub(crate) enum Stop {
     Source,
     Sink,
     TooMuch,
-}
-
-impl From<NoMemory> for Stop {
-    ghost use Rattle.std.specs.Prelude.{◌≡◌};
-    ghost use Rattle.ltx_top.specs.declared.status.Stop.TheVariants as stops;
-
-    ghost from_gives = { λ _ e. e ≡ stops.NoMemory };
-
-    fn from(_wanted: NoMemory) -> Stop {
-        Stop::NoMemory
-    }
 }

@@ -1,58 +1,18 @@
-use Rattle.std.proofs.Common.{◌≡◌, ◌≢◌, ◌∷◌, [], ◌<◌, ℕ, List, Result, Ok, Err, Option, Some, None, Vec, Global, IfOk, IfSome, IfNone, IsSomeAnd, ◌∙◌, sym, ap, arith, length, rules}
-use Rattle.ltx_model.specs.declared.memory.NoMemory.{NoMemory}
-use Rattle.ltx_text.specs.Words.{AreBytes, spellings, word_of}
-use Rattle.ltx_text.proofs.WordLemmas.{is_other, plain_word, spellings_one, word_is_some, word_of_others, word_spelling_injective}
+use Rattle.std.proofs.Common.{subst, sym, ◌∙◌}
+use Rattle.ltx_text.specs.Words.{AreBytes}
+use Rattle.ltx_text.proofs.WordLemmas.{word_spelling_injective}
+use Rattle.ltx_text.proofs.WordReadings.{no_bytes, bytes_again}
 use Rattle.ltx_text.proofs.words.decode_word.Goals as goal
 
-pub returns-then-is_empty-clause-none : goal.returns-then-is_empty-clause-none
-returns-then-is_empty-clause-none c =
-    let none : length c.args.word.now ≡ 0 = search rules in
-    λ bytes low same. omega (arith, none, ap length same, word_is_some bytes)
-
-pub returns-then-is_empty-clause-again : goal.returns-then-is_empty-clause-again
-returns-then-is_empty-clause-again c =
-    let none : length c.args.word.now ≡ 0 = search rules in
-    λ bytes low same. absurd (omega (arith, none, ap length same, word_is_some bytes))
-
-pub returns-then-are_plain-clause-found : goal.returns-then-are_plain-clause-found
-returns-then-are_plain-clause-found c =
-    let some : 0 < length c.args.word.now = search rules in
-    sym (plain_word c.args.word.now some (sym c.are_plain.ensures ∙ c.if-are_plain.true)) ∙ ap word_of (sym c.in_ok-from_slice.ensures.items)
-
-pub returns-then-are_plain-clause-again : goal.returns-then-are_plain-clause-again
-returns-then-are_plain-clause-again c =
-    let some : 0 < length c.args.word.now = search rules in
-    let own = plain_word c.args.word.now some (sym c.are_plain.ensures ∙ c.if-are_plain.true) in
-    λ bytes low is. word_spelling_injective _ bytes (ap word_of c.in_ok-from_slice.ensures.items ∙ own ∙ is)
-
--- what is no spellings is no word, but for `%`
-none_of_word : (word : List ℕ) (r : Result (Option (Vec ℕ Global)) NoMemory) → word ≢ 37 ∷ []
-    → IfOk r (λ found. IfNone found ((bytes : List ℕ) → AreBytes bytes → word ≢ spellings bytes))
-    → IfOk r (λ found. IfNone found ((bytes : List ℕ) → AreBytes bytes → word ≢ word_of bytes))
-none_of_word word (Ok (Some v)) other none = tt
-none_of_word word (Ok None) other none = λ bytes low same. none bytes low (word_of_others word bytes other same)
-none_of_word word (Err e) other none = tt
-
-pub returns-clause-none : goal.returns-clause-none
-returns-clause-none c =
-    none_of_word c.args.word.now c.read_spellings.result (is_other c.args.word.now c.as_slice.result.now c.as_slice.ensures c.if-eq.ensures) c.read_spellings.ensures.none
-
-pub returns-then-eq-clause-again : goal.returns-then-eq-clause-again
-returns-then-eq-clause-again c =
-    λ bytes low is.
-    let word : c.args.word.now ≡ 37 ∷ [] = search rules in
-    let same : [] ≡ bytes = word_spelling_injective [] bytes (sym word ∙ is) in
-    c.new.ensures.items ∙ same
-
-again_of_word : (word : List ℕ) (r : Result (Option (Vec ℕ Global)) NoMemory) → word ≢ 37 ∷ []
-    → IfOk r (λ found. IfSome found (λ read. word ≡ spellings read.items))
-    → IfOk r (λ found. IfNone found ((bytes : List ℕ) → AreBytes bytes → word ≢ spellings bytes))
-    → (bytes : List ℕ) → AreBytes bytes → word ≡ word_of bytes → IfOk r (λ found. IsSomeAnd found (λ read. read.items ≡ bytes))
-again_of_word word (Ok (Some v)) other found none bytes low is = spellings_one v.items bytes (sym found ∙ word_of_others word bytes other is)
-again_of_word word (Ok None) other found none bytes low is = none bytes low (word_of_others word bytes other is)
-again_of_word word (Err e) other found none bytes low is = tt
+pub returns-in_default-clause-exact : goal.returns-in_default-clause-exact
+returns-in_default-clause-exact c = let h = rw c.in_default.is at c.in_ok-bytes.ensures.none in no_bytes c.args.word.now h
 
 pub returns-clause-again : goal.returns-clause-again
 returns-clause-again c =
-    again_of_word c.args.word.now c.read_spellings.result (is_other c.args.word.now c.as_slice.result.now c.as_slice.ensures c.if-eq.ensures)
-    c.read_spellings.ensures.found c.read_spellings.ensures.none
+    let h = rw c.in-Some.is at c.in_ok-bytes.ensures.found in
+    λ bytes low is. word_spelling_injective c.in-Some.bytes.items bytes (sym h ∙ is)
+
+pub returns-clause-exact : goal.returns-clause-exact
+returns-clause-exact c =
+    let h = rw c.in-Some.is at c.in_ok-bytes.ensures.found in
+    bytes_again c.args.word.now c.in-Some.bytes.items (subst AreBytes c.deref.ensures.value c.are_bytes.ensures) h

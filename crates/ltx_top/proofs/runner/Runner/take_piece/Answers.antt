@@ -1,7 +1,7 @@
 use Rattle.std.proofs.Common.{[]}
 use Rattle.ltx_top.specs.Hands.{hand_of}
 use Rattle.ltx_top.proofs.Results.{way_stops, way_rose, took_on, took_stops, took_rose, took_less}
-use Rattle.ltx_top.proofs.session.Session.take_piece.Goals as goal
+use Rattle.ltx_top.proofs.runner.Runner.take_piece.Goals as goal
 
 pub returns-in-Err-clause-stops : goal.returns-in-Err-clause-stops
 returns-in-Err-clause-stops g c =

@@ -5,7 +5,7 @@ use Rattle.ltx_script.specs.Lines.{line_of}
 use Rattle.ltx_top.specs.Hands.{hand_of}
 use Rattle.ltx_top.specs.Progress.{Progress}
 use Rattle.ltx_top.specs.Spellings.{lines_in}
-use Rattle.ltx_top.proofs.session.Session.answer_piece.Goals as goal
+use Rattle.ltx_top.proofs.runner.Runner.answer_piece.Goals as goal
 
 pub returns-in-Err-clause-stops : goal.returns-in-Err-clause-stops
 returns-in-Err-clause-stops g c = λ start left p.

@@ -1,6 +1,6 @@
 use Rattle.ltx_top.specs.Hands.{hand_of}
 use Rattle.ltx_top.proofs.Results.{closed_ran, closed_stops, unclosed}
-use Rattle.ltx_top.proofs.session.Session.finish.Goals as goal
+use Rattle.ltx_top.proofs.runner.Runner.finish.Goals as goal
 
 pub returns-in-Err-clause-stops : goal.returns-in-Err-clause-stops
 returns-in-Err-clause-stops g c =

@@ -3,7 +3,7 @@ use Rattle.ltx_top.specs.declared.status.Stop.{Stop}
 use Rattle.ltx_top.specs.Hands.{hand_of}
 use Rattle.ltx_top.specs.Progress.{Devices, Ends, Progress}
 use Rattle.ltx_top.proofs.Results.{worked_ran, worked_stops, worked_rose, end_stops, gave_up}
-use Rattle.ltx_top.proofs.session.Session.work.Goals as goal
+use Rattle.ltx_top.proofs.runner.Runner.work.Goals as goal
 
 pub returns-in-Ok-clause-ran : goal.returns-in-Ok-clause-ran
 returns-in-Ok-clause-ran g c =

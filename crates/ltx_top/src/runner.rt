@@ -1,6 +1,6 @@
 //! A run under way: its reader, and what answers its lines.
 
-ghost use Rattle.std.specs.Prelude.{◌≡◌, ◌≤◌, ◌<◌, ℕ, List, Option, [], ◌∷◌, take, length, true, false, Ok, IfOk, OnOk, IfErr};
+ghost use Rattle.std.specs.Prelude.{◌≡◌, ◌≤◌, ◌<◌, ℕ, List, Option, [], take, length, true, false, Ok, IfOk, OnOk, IfErr};
 ghost use Rattle.std.specs.Io.KnownBytes.{Appends, IsAtEnd};
 ghost use Rattle.ltx_core.specs.Stands.{StandsFor};
 ghost use Rattle.ltx_text.specs.Lines.{fresh, to_go};
@@ -30,20 +30,20 @@ const MOST_OF_SCRIPT: u64 = 4_294_967_295;
 
 /// A run under way.
 #[derive(Drop)]
-pub(crate) struct Session {
-    pub lines: Lines,
+pub(crate) struct Runner {
+    lines: Lines,
     pub responder: Responder,
 }
 
-impl Session {
+impl Runner {
     /// A run that has read nothing yet, over no rows.
-    pub fn new(alloc: Global) -> Result<Session, NoMemory>
+    pub fn new(alloc: Global) -> Result<Runner, NoMemory>
         ensures lines { IfOk result (λ s. s.lines ≡ fresh most_of_script) }
         ensures core { IfOk result (λ s. StandsFor s.responder.core empty_base []) }
         ensures text { IfOk result (λ s. s.responder.text.items ≡ []) }
         ensures malformed { IfOk result (λ s. s.responder.malformed ≡ false) }
     {
-        Ok(Session {
+        Ok(Runner {
             lines: Lines::new(alloc, MOST_OF_SCRIPT)?,
             responder: Responder::new(alloc)?,
         })
@@ -61,7 +61,7 @@ impl Session {
         ensures rose { IfErr result (λ stop. (s s' : ℕ) → RoseAt stop s s' (K.faults sink.old) (K.faults sink.new)) }
         ensures counted { K.faults sink.old ≤ K.faults sink.new }
     {
-        let Session { lines, responder } = self;
+        let Runner { lines, responder } = self;
         let Some(bytes) = lines.peek() else {
             return Ok(false);
         };
@@ -75,8 +75,7 @@ impl Session {
         }
     }
 
-    /// Takes the next piece, where no whole line is held: by a read, or at the end of the source. The gathered text is
-    /// handed to the sink before.
+    /// Takes the next piece by a read, where no whole line is held. The gathered text is handed to the sink before.
     fn take_piece<S: Source, K: Sink>(
         &mut self,
         source: &mut S,

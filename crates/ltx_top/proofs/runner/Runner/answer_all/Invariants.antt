@@ -2,7 +2,7 @@ use Rattle.std.proofs.Common.{◌≤◌, []}
 use Rattle.ltx_text.specs.Lines.{to_go}
 use Rattle.ltx_top.specs.Progress.{Devices, Progress}
 use Rattle.ltx_top.specs.Hands.{hand_of}
-use Rattle.ltx_top.proofs.session.Session.answer_all.Given as goal
+use Rattle.ltx_top.proofs.runner.Runner.answer_all.Given as goal
 
 -- the run goes on from where it began, and no count fell
 abbrev pub invariant-loop-stop : goal.invariant-loop-stop

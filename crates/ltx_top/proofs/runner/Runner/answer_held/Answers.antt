@@ -1,6 +1,6 @@
 use Rattle.std.proofs.Common.{◌+◌, drop, length, refl}
 use Rattle.ltx_top.proofs.Results.{held_line, held_less}
-use Rattle.ltx_top.proofs.session.Session.answer_held.Goals as goal
+use Rattle.ltx_top.proofs.runner.Runner.answer_held.Goals as goal
 
 pub returns-in-Ok-clause-on : goal.returns-in-Ok-clause-on
 returns-in-Ok-clause-on g c = λ start left p.
