@@ -65,3 +65,13 @@ pub record IsBound (bound : List ℕ) : Type 0 where
 pub record IsValue (value : List ℕ) : Type 0 where
   pub short : length value ≤ value_limit
   pub bytes : AreBytes value
+
+-- a number of a transaction, of a table, and of an epoch or an operation
+abbrev pub IsTx : ℕ → Type 0
+IsTx n = (0 < n) × (n ≤ last_number)
+
+abbrev pub IsTable : ℕ → Type 0
+IsTable n = n < table_count
+
+abbrev pub IsCount : ℕ → Type 0
+IsCount n = n < count_limit
