@@ -1,5 +1,11 @@
 pub mod OneMore
 pub mod WorkedScripts
 pub mod TableSets
+pub mod Orderings
 pub mod Words
 pub mod FirstPlace
+pub mod KeyOrder
+pub mod CellOrder
+pub mod ItemsAt
+pub mod Rising
+pub mod RowsAt
