@@ -1,6 +1,7 @@
 -- Who holds a table: the batches that are entered with the tables that they declared for writing, pending or live.
-use Rattle.std.specs.Prelude.{◌≡◌, ℕ, ◌≤◌, Bool, true, false, not, ◌&&◌, ◌==◌, nat_le, List, [], ◌∷◌, ◌++◌, map, filter, filter_map, Option, Some, None, Contains, if◌then◌else◌}
+use Rattle.std.specs.Prelude.{◌≡◌, ℕ, ◌≤◌, Bool, true, false, ◌&&◌, ◌==◌, nat_le, List, [], ◌∷◌, ◌++◌, map, filter, filter_map, Option, Some, None, Contains, if◌then◌else◌}
 use Rattle.std.specs.List.{list_any}
+use Rattle.ltx_model.specs.Lists.{change_first, without_first}
 use Rattle.ltx_model.specs.Tables.{has_table}
 use Rattle.ltx_model.specs.States.{Declaration, Kind, IsShort, IsPending, IsLive, Active, State}
 
@@ -22,17 +23,17 @@ is_entered hs n = list_any (is_holder n) hs
 abbrev pub entered : ℕ → ℕ → List Holder → List Holder
 entered n tables hs = hs ++ record { number = n; tables = tables; live = false } ∷ []
 
--- the batch of this number, live from now on
-abbrev pub live_from_now : ℕ → Holder → Holder
-live_from_now n h = if is_holder n h then record { number = h.number; tables = h.tables; live = true } else h
+-- a batch, live from now on
+abbrev pub live_from_now : Holder → Holder
+live_from_now h = record { number = h.number; tables = h.tables; live = true }
 
 -- the holders after a batch becomes live
 abbrev pub gone_live : ℕ → List Holder → List Holder
-gone_live n hs = map (live_from_now n) hs
+gone_live n hs = change_first (is_holder n) live_from_now hs
 
 -- the holders after a batch ends
 abbrev pub removed : ℕ → List Holder → List Holder
-removed n hs = filter (λ h. not (is_holder n h)) hs
+removed n hs = without_first (is_holder n) hs
 
 -- a live batch holds each table that it declared
 abbrev pub holds_table : ℕ → Holder → Bool
@@ -73,3 +74,8 @@ holder_of (IsLive d snapshot) n = Some (record { number = n; tables = d.writes; 
 -- the pending and live batches of a state, in the order of their numbers
 abbrev pub holders_of : State → List Holder
 holders_of s = filter_map (λ o. holder_of o.kind o.number) s.active
+
+-- the least live batch that holds the table, or none where nobody holds it, as a relation
+abbrev pub IsHeldBy : List Holder → ℕ → Option ℕ → Type 0
+IsHeldBy hs table None = IsUnheld hs table
+IsHeldBy hs table (Some n) = IsLeastHolder hs table n

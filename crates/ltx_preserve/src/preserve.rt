@@ -6,10 +6,10 @@
 //! live or ends.
 
 ghost use Rattle.std.specs.Prelude.{◌≡◌, ◌<◌, ℕ, [], ◌∷◌, ◌++◌, true, false, List, OnOk, OnErr, IfSome, IfNone, slice_index_or, Some, None};
-ghost use Rattle.ltx_model.specs.Lists.{change_first, without_first};
-ghost use Rattle.ltx_model.specs.Tables.{has_table};
 ghost use Rattle.ltx_model.specs.Firsts.{IsFirst};
-ghost use Rattle.ltx_preserve.specs.Holders.{is_of, is_entered, holds, made_live, IsHolder, lesser_of};
+ghost use Rattle.ltx_model.specs.Tables.{has_table};
+ghost use Rattle.ltx_model.specs.Holders.{Holder, is_holder, is_entered, entered, live_from_now, gone_live, removed, holds_table, IsHeldBy};
+ghost use Rattle.ltx_preserve.specs.Kept.{IsKept, lesser_of};
 
 use ltx_model::memory::NoMemory;
 use ltx_model::numbers::{Table, Tx};
@@ -17,18 +17,35 @@ use ltx_model::tables::TableSet;
 use std::alloc::Global;
 use std::marker::Model;
 
-/// A batch that has begun: its number, the tables that it declared, and whether it is live.
-#[derive(Clone, Copy, Debug, PartialEq, Eq)]
-pub struct Entered {
+// A batch that has begun: its number, the tables that it declared, and whether it is live.
+#[derive(Debug, Drop)]
+struct Entered {
     tx: Tx,
     tables: TableSet,
     live: bool,
 }
 
+impl Model for Entered {
+    ghost use Rattle.ltx_model.specs.Holders.{Holder};
+
+    ghost Value = { Holder };
+
+    ghost view = { λ e. record { number = e.tx; tables = e.tables; live = e.live } };
+
+    ghost invariant = { λ e. Unit {0} };
+}
+
 impl Entered {
+    // From now on it is live.
+    fn go_live(&mut self)
+        ensures { self.new ≡ live_from_now self.old }
+    {
+        self.live = true;
+    }
+
     // Whether it is live and has declared the table.
     fn holds(&self, table: Table) -> bool
-        ensures { result ≡ holds table self.now }
+        ensures { result ≡ holds_table table self.now }
     {
         self.live && self.tables.has(table)
     }
@@ -36,7 +53,7 @@ impl Entered {
     // The least holder of a table among some batches and this one.
     #[tactic(auto, using(crate::proofs::Holding::one_more_idle, crate::proofs::Holding::one_more_holder))]
     fn lesser_holder(&self, table: Table, least: Option<Tx>) -> Option<Tx>
-        ensures { (xs : List Entered) → IsHolder xs table least → IsHolder (xs ++ self.now ∷ []) table result }
+        ensures { (hs : List Holder) → IsKept hs table least → IsKept (hs ++ self.now ∷ []) table result }
     {
         if !self.holds(table) {
             return least;
@@ -54,15 +71,15 @@ pub struct Preserve {
 
 // Clauses see the batches in the order in which they were entered.
 impl Model for Preserve {
-    ghost use Rattle.std.specs.Prelude.{List, length, ◌≡◌};
-    ghost use Rattle.ltx_preserve.specs.declared.preserve.Entered.{Entered};
-    ghost use Rattle.ltx_preserve.specs.Holders.{AreHolders};
+    ghost use Rattle.std.specs.Prelude.{List};
+    ghost use Rattle.ltx_model.specs.Holders.{Holder};
+    ghost use Rattle.ltx_preserve.specs.Kept.{AreKept};
 
-    ghost Value = { List Entered };
+    ghost Value = { List Holder };
 
     ghost view = { λ p. p.entered.items };
 
-    ghost invariant = { λ p. AreHolders p.entered.items p.least };
+    ghost invariant = { λ p. AreKept p.entered.items p.least };
 }
 
 impl Preserve {
@@ -78,8 +95,8 @@ impl Preserve {
 
     /// Enters a batch that has begun; it holds nothing yet. After NoMemory nothing has changed.
     pub fn add(&mut self, tx: Tx, tables: TableSet) -> Result<(), NoMemory>
-        requires absent { is_entered tx self.old ≡ false }
-        ensures added { OnOk result (self.new ≡ self.old ++ record { tx = tx; tables = tables; live = false } ∷ []) }
+        requires absent { is_entered self.old tx ≡ false }
+        ensures added { OnOk result (self.new ≡ entered tx tables self.old) }
         ensures kept { OnErr result (self.new ≡ self.old) }
     {
         self.entered.push(Entered {
@@ -92,24 +109,20 @@ impl Preserve {
 
     /// Makes a batch live: from now on it holds its tables.
     pub fn go_live(&mut self, tx: Tx)
-        requires entered { is_entered tx self.old ≡ true }
-        ensures { self.new ≡ change_first (is_of tx) made_live self.old }
+        requires entered { is_entered self.old tx ≡ true }
+        ensures { self.new ≡ gone_live tx self.old }
     {
         if let Some(place) = place_of(&self.entered, tx) {
-            let batch = self.entered[place];
-            self.entered[place] = Entered {
-                tx: batch.tx,
-                tables: batch.tables,
-                live: true,
-            };
-            refresh(&self.entered, &mut self.least, batch.tables);
+            let tables = self.entered[place].tables;
+            self.entered[place].go_live();
+            refresh(&self.entered, &mut self.least, tables);
         }
     }
 
     /// Removes a batch that has ended: it holds no table any more.
     pub fn remove(&mut self, tx: Tx)
-        requires entered { is_entered tx self.old ≡ true }
-        ensures { self.new ≡ without_first (is_of tx) self.old }
+        requires entered { is_entered self.old tx ≡ true }
+        ensures { self.new ≡ removed tx self.old }
     {
         if let Some(place) = place_of(&self.entered, tx) {
             let ended = self.entered.remove(place);
@@ -121,8 +134,9 @@ impl Preserve {
 
     /// The holder of a table with the least number, or None where nobody holds it. It takes constant
     /// time.
+    #[tactic(auto, using(crate::proofs::Holding::told))]
     pub fn holder(&self, table: Table) -> Option<Tx>
-        ensures { IsHolder self.now table result }
+        ensures { IsHeldBy self.now table result }
     {
         self.least[table.number() as usize]
     }
@@ -141,8 +155,8 @@ fn nobody() -> [Option<Tx>; 64]
 
 // Where a batch stands.
 fn place_of(entered: &[Entered], tx: Tx) -> Option<usize>
-    ensures some { IfSome result (IsFirst (is_of tx) entered.now) }
-    ensures none { IfNone result (is_entered tx entered.now ≡ false) }
+    ensures some { IfSome result (IsFirst (is_holder tx) entered.now) }
+    ensures none { IfNone result (is_entered entered.now tx ≡ false) }
 {
     for (place, batch) in entered.iter().enumerate() {
         if batch.tx == tx {
@@ -154,7 +168,7 @@ fn place_of(entered: &[Entered], tx: Tx) -> Option<usize>
 
 // The least holder of a table.
 fn least_holder(entered: &[Entered], table: Table) -> Option<Tx>
-    ensures { IsHolder entered.now table result }
+    ensures { IsKept entered.now table result }
 {
     let mut least = None;
     for batch in entered {
@@ -175,7 +189,7 @@ fn lesser(least: Option<Tx>, tx: Tx) -> Option<Tx>
 
 // Finds the holders of some tables anew.
 fn refresh(entered: &[Entered], least: &mut [Option<Tx>; 64], tables: TableSet)
-    ensures here { (table : ℕ) → table < 64 → has_table tables table ≡ true → IsHolder entered.now table (slice_index_or least.new table None) }
+    ensures here { (table : ℕ) → table < 64 → has_table tables table ≡ true → IsKept entered.now table (slice_index_or least.new table None) }
     ensures others { (table : ℕ) → table < 64 → has_table tables table ≡ false → slice_index_or least.new table None ≡ slice_index_or least.old table None }
 {
     for number in 0..64u8 {
