@@ -1,5 +1,5 @@
 -- What is read off known scripts: marks, holders, places, decisions, last writes, records and what pruning forgets, computed by the checker.
-use Rattle.std.proofs.Common.{◌≡◌, ◌≢◌, ℕ, ◌<◌, ◌==◌, Bool, true, false, List, [], ◌∷◌, ◌++◌, refl, map, Option, Some, None, option_map, arith, length, slice_get}
+use Rattle.std.proofs.Common.{◌≡◌, ℕ, ◌==◌, Bool, true, false, List, [], ◌∷◌, refl, sym, ap, map, Option, Some, None, option_map}
 use Rattle.std.specs.List.{find}
 use Rattle.ltx_model.specs.declared.commands.Op.TheVariants.{Del}
 use Rattle.ltx_model.specs.declared.commands.Line.{Line}
@@ -22,10 +22,10 @@ use Rattle.ltx_model.specs.Marks.{newest_mark, mark_of_slot, number_of_commit}
 use Rattle.ltx_model.specs.Shorts.{Held, holder, first_change}
 use Rattle.ltx_model.specs.Holders.{Holder, entered, gone_live, removed, holders_of, is_entered, least_holder}
 use Rattle.ltx_model.specs.Verdicts.{Verdict, Passes, RefusedAsHeld, RefusedAsChanged, verdict}
-use Rattle.ltx_model.specs.Notes.{asks, IsLastLook, note_looks_up, note_writes}
+use Rattle.ltx_model.specs.Notes.{IsPointBy, IsLastLook, note_looks_up, note_writes}
 use Rattle.ltx_model.specs.Batches.{ByLate, ByContradicts, target, first_late, first_contradicted}
 use Rattle.ltx_model.specs.Records.{Records, Recorded, recorded, forgotten, is_kept, mark_kept, covering, writers}
-use Rattle.ltx_model.specs.Decisions.{Decision, CommitAt, WaitFor, RefuseAt, decision, place, overtaken, Live, lives_of, is_installed}
+use Rattle.ltx_model.specs.Decisions.{Decision, CommitAt, WaitFor, RefuseAt, decision, place, overtaken, lives_of, IsAskedLook, is_installed}
 use Rattle.ltx_model.specs.Pruning.{live_marks, prune_mark, below}
 use Rattle.ltx_model.specs.Answers.{answer, entries_from}
 use Rattle.ltx_model.specs.Disks.{Images, Crashes, is_written, only, wrote, synced, moment}
@@ -181,6 +181,23 @@ look_of_a_deletion = (refl, refl)
 no_look_of_a_deletion : IsLastLook (last_write [] (deleted_by_3 ∷ [])) (cell 5 120) None
 unfolding entries_from answer after state_from run see first_change target first_late first_contradicted sealed body_length last_write
 no_look_of_a_deletion = refl
+
+-- a decision asks for the look of a deletion where its writer is still asked for, and only there
+abbrev writer_in : Option LastWrite → ℕ
+writer_in None = 0
+writer_in (Some w) = w.writer
+
+unasked_deletion : IsAskedLook (λ n. n == 4) (last_write [] (deleted_by_3 ∷ [])) (cell 5 120) None
+unfolding last_write
+unasked_deletion w is = ap (λ o. writer_in o == 4) (sym is)
+
+asked_deletion : IsAskedLook (λ n. n == 3) (last_write [] (deleted_by_3 ∷ [])) (cell 5 120) None → true ≡ false
+unfolding last_write
+asked_deletion asks = asks (record { writer = 3; gone = true }) refl
+
+-- the batch's own key is not one of its look-ups
+point_of_own : IsPointBy (λ c look. ⊥) (Del 0 (121 ∷ []) ∷ []) (cell 0 121) None true
+point_of_own = record { own_key = refl; looked = λ e. let no : ⊥ = cc in no }
 
 -- verdicts on shorts
 held_is_refused : option_map (λ o. verdict (holder (state_after 4 preserve_is_met_at_commit)) (latest (state_after 4 preserve_is_met_at_commit)) o.steps) (active_of (state_after 4 preserve_is_met_at_commit) 1) ≡ Some (RefusedAsHeld (record { table = 0; holder = 2 }))

@@ -1,5 +1,5 @@
 -- What is decided of the commit of a live batch, and what the decision asks for.
-use Rattle.std.specs.Prelude.{◌≡◌, ℕ, Bool, true, false, not, ◌&&◌, ◌==◌, List, map, filter, Option, Some, None, Contains}
+use Rattle.std.specs.Prelude.{◌≡◌, ℕ, ◌<◌, nat_lt, Bool, true, false, not, ◌&&◌, ◌==◌, List, map, filter, Option, Some, None, Contains}
 use Rattle.std.specs.List.{list_any}
 use Rattle.ltx_model.specs.declared.looked.Noted.{Noted}
 use Rattle.ltx_model.specs.declared.replies.Reply.{Reply}
@@ -9,17 +9,18 @@ use Rattle.ltx_model.specs.declared.writes.Look.{Look}
 use Rattle.ltx_model.specs.declared.writes.Target.{Target}
 use Rattle.ltx_model.specs.declared.writes.Target.TheVariants as targets
 use Rattle.ltx_model.specs.declared.writes.Write.{Write}
-use Rattle.ltx_model.specs.Lists.{numbered, before_first}
+use Rattle.ltx_model.specs.Lists.{IsPairwise, numbered, before_first}
 use Rattle.ltx_model.specs.Keys.{Cell}
 use Rattle.ltx_model.specs.Operations.{writes_of}
 use Rattle.ltx_model.specs.LastWrites.{LastWrite, last_write}
-use Rattle.ltx_model.specs.Agenda.{number_of}
+use Rattle.ltx_model.specs.Agenda.{number_of, has_slot, commits_after}
 use Rattle.ltx_model.specs.States.{Kind, IsLive, Active, State, LiveBatch, transaction_of, live_batches}
 use Rattle.ltx_model.specs.Listings.{is_member, numbers_of}
-use Rattle.ltx_model.specs.Marks.{IsMarkOfSlot}
+use Rattle.ltx_model.specs.Marks.{IsMarkOfSlot, IsNumberOfCommit}
 use Rattle.ltx_model.specs.Notes.{AreNotesBy}
 use Rattle.ltx_model.specs.Batches.{batch_operations, overtakes, Overtakes, target, IsTarget, IsOvertakenLive, Refusal, ByLate, ByContradicts, Witness, IsLate, IsFirstLate, IsFirstContradicted, first_witness, HasWitness, waits, Waits, MayRead, is_from_floor}
 use Rattle.ltx_model.specs.Records.{Records, AreRecordsOf}
+use Rattle.ltx_model.specs.Explained.{IsDistinct}
 
 -- the members that the live batch i overtakes, in the order of the agenda
 abbrev pub overtaken : State → LiveBatch → List ℕ
@@ -126,12 +127,17 @@ pub record IsDecidable (s : State) (i : LiveBatch) (notes : List Noted) (mark : 
   pub marked : IsMarkOfSlot s.moves i.tx.number mark
   -- of each key that it wrote the last write, in order of table and key
   pub written : writes ≡ writes_of (batch_operations i)
+  -- among the commits of batches those after its snapshot are the ones above its mark
+  pub alike : (j number : ℕ) → has_slot s.moves j ≡ true → IsNumberOfCommit s.moves j number → commits_after s.moves i.tx.number j ≡ nat_lt mark number
   -- all live batches, this one included, in the order of their numbers
   pub live : lives ≡ lives_of s
+  pub rising : IsPairwise (λ a b. a.number < b.number) lives
   -- every commit was noted; each committed member from the floor on is kept with all its look-ups and writes, and no others are told
   pub recorded : AreRecordsOf s records
-  -- the members of the agenda, in order
+  -- the members of the agenda, in order, each once; every live batch is one
   pub listed : agenda ≡ numbers_of s
+  pub distinct : IsDistinct agenda
+  pub members : (b : LiveBatch) → Contains (live_batches s) b → is_member agenda b.tx.number ≡ true
 
 -- the number v is in the list, and n stands before it
 abbrev pub stands_before : List ℕ → ℕ → ℕ → Bool

@@ -9,18 +9,18 @@ use Rattle.ltx_model.specs.Played.{Played, PlayedSlot, PlayedCommit, is_played, 
 use Rattle.ltx_model.specs.Contents.{Placed, first_gate, frames_in, epoch_after, IsBlank, IsLogOf}
 
 -- an event is lawful after a list and behind a frame with this epoch: it is lawful after the list, and a commit's epoch is above that one
-abbrev pub IsLawful : ℕ → List Played → LogEvent → Type 0
-IsLawful before ps e = IsLawfulEvent ps e × IsCommitAbove before e
+abbrev pub IsLawfulMove : ℕ → List Played → LogEvent → Type 0
+IsLawfulMove before ps e = IsLawfulEvent ps e × IsCommitAbove before e
 
 -- the events of one frame are lawful, each after those before it
-abbrev pub AreLawful : ℕ → List Played → List LogEvent → Type 0
-AreLawful before ps [] = Unit {0}
-AreLawful before ps (e ∷ es) = IsLawful before ps e × AreLawful before (after_event ps e) es
+abbrev pub AreLawfulMoves : ℕ → List Played → List LogEvent → Type 0
+AreLawfulMoves before ps [] = Unit {0}
+AreLawfulMoves before ps (e ∷ es) = IsLawfulMove before ps e × AreLawfulMoves before (after_event ps e) es
 
 -- the events of all frames are lawful, frame by frame, behind a frame with this epoch
 abbrev pub AreLawfulFrames : ℕ → List Played → List Frame → Type 0
 AreLawfulFrames before ps [] = Unit {0}
-AreLawfulFrames before ps (f ∷ fs) = AreLawful before ps f.events × AreLawfulFrames f.epoch (after_events ps f.events) fs
+AreLawfulFrames before ps (f ∷ fs) = AreLawfulMoves before ps f.events × AreLawfulFrames f.epoch (after_events ps f.events) fs
 
 -- the member is the slot of the batch n
 abbrev pub is_played_slot : ℕ → Played → Bool
@@ -33,10 +33,10 @@ is_target_played ps n None = true
 is_target_played ps n (Some target) = list_any (is_played target) (before_first (is_played n) ps)
 
 -- the event is lawful: the test
-abbrev pub is_lawful : ℕ → List Played → LogEvent → Bool
-is_lawful before ps (SlotEvent n) = not (list_any (is_played n) ps)
-is_lawful before ps (ShortEvent n epoch writes) = not (list_any (is_played n) ps) && nat_lt before epoch
-is_lawful before ps (BatchEvent n epoch target writes) = list_any (is_played_slot n) ps && is_target_played ps n target && nat_lt before epoch
+abbrev pub is_lawful_move : ℕ → List Played → LogEvent → Bool
+is_lawful_move before ps (SlotEvent n) = not (list_any (is_played n) ps)
+is_lawful_move before ps (ShortEvent n epoch writes) = not (list_any (is_played n) ps) && nat_lt before epoch
+is_lawful_move before ps (BatchEvent n epoch target writes) = list_any (is_played_slot n) ps && is_target_played ps n target && nat_lt before epoch
 
 -- an event that is not lawful: the place of its frame's gate, and its number in the frame, counted from 0
 pub record Unlawful : Type 0 where
@@ -46,7 +46,7 @@ pub record Unlawful : Type 0 where
 -- the number of the first event of a frame that is not lawful, where the first of these has this number
 abbrev pub unlawful_in : ℕ → List Played → ℕ → List LogEvent → Option ℕ
 unlawful_in before ps k [] = None
-unlawful_in before ps k (e ∷ es) = if is_lawful before ps e then unlawful_in before (after_event ps e) (k + 1) es else Some k
+unlawful_in before ps k (e ∷ es) = if is_lawful_move before ps e then unlawful_in before (after_event ps e) (k + 1) es else Some k
 
 -- the first event of frames that is not lawful, behind a frame with this epoch
 abbrev pub unlawful_from : ℕ → List Played → List Placed → Option Unlawful
@@ -71,8 +71,8 @@ pub record IsFirstUnlawful (frames : List Placed) (u : Unlawful) : Type 0 where
   pub later : List LogEvent
   pub events : placed.frame.events ≡ earlier ++ event ∷ later
   pub number : length earlier ≡ u.event
-  pub earlier_lawful : AreLawful (epoch_after 0 (frames_in front)) (played_list (events_in (frames_in front))) earlier
-  pub unlawful : IsLawful (epoch_after 0 (frames_in front)) (after_events (played_list (events_in (frames_in front))) earlier) event → ⊥
+  pub earlier_lawful : AreLawfulMoves (epoch_after 0 (frames_in front)) (played_list (events_in (frames_in front))) earlier
+  pub unlawful : IsLawfulMove (epoch_after 0 (frames_in front)) (after_events (played_list (events_in (frames_in front))) earlier) event → ⊥
 
 -- the number of an event
 abbrev pub number_of_event : LogEvent → ℕ
