@@ -1,4 +1,5 @@
 pub mod OneMore
+pub mod NoteMarks
 pub mod WorkedScripts
 pub mod WorkedLogs
 pub mod WorkedParts
