@@ -63,3 +63,5 @@ pub mod AnsweredShorts
 pub mod FollowingFrames
 pub mod SlotEpochs
 pub mod InsideAreas
+pub mod Begins
+pub mod PrintedCommits

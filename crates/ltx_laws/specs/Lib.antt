@@ -13,3 +13,4 @@ pub mod Floors
 pub mod LastWriters
 pub mod Answered
 pub mod Areas
+pub mod Printed

@@ -7,6 +7,7 @@ pub mod commits;
 pub mod epochs;
 pub mod floor;
 pub mod preserve;
+pub mod printed;
 pub mod priority;
 pub mod recovery;
 pub mod refusals;
