@@ -65,3 +65,4 @@ pub mod SlotEpochs
 pub mod InsideAreas
 pub mod Begins
 pub mod PrintedCommits
+pub mod PrintedPlaces
