@@ -189,6 +189,15 @@ module _ (past : List Entry) (s : State) (h : AreBegun past s) (e : Entry) (sess
             let high : next.last ≡ s.last + 1 = last in
             (let r : s.last < n = omega arith in r, let r : n ≤ next.last = omega arith in r)
 
+-- slots leave the last number
+pub last_kept : (epoch : ℕ) (r : State) (os : List Active) → (slots_after epoch r os).last ≡ r.last
+last_kept epoch r [] = refl
+last_kept epoch r (o ∷ os) = last_kept epoch (slot_after epoch r o.kind o.number) os ∙ by_kind o.kind where
+  by_kind : (k : Kind) → (slot_after epoch r k o.number).last ≡ r.last
+  by_kind IsShort = refl
+  by_kind (IsPending d) = refl
+  by_kind (IsLive d snapshot) = refl
+
 -- an advance
 module _ (past : List Entry) (s : State) (h : AreBegun past s) (e : Entry) where
   slots_told : (os : List Active) → AreOpens past s.epoch os → AreTold past (slots_of (s.epoch + 1) os)
@@ -203,14 +212,6 @@ module _ (past : List Entry) (s : State) (h : AreBegun past s) (e : Entry) where
   live_now IsShort n epoch own = own
   live_now (IsPending d) n epoch own = own.0
   live_now (IsLive d snapshot) n epoch own = own
-
-  last_kept : (epoch : ℕ) (r : State) (os : List Active) → (slots_after epoch r os).last ≡ r.last
-  last_kept epoch r [] = refl
-  last_kept epoch r (o ∷ os) = last_kept epoch (slot_after epoch r o.kind o.number) os ∙ by_kind o.kind where
-    by_kind : (k : Kind) → (slot_after epoch r k o.number).last ≡ r.last
-    by_kind IsShort = refl
-    by_kind (IsPending d) = refl
-    by_kind (IsLive d snapshot) = refl
 
   advanced_begun : ((n : ℕ) → effect_of e.reply ≡ Begins n → ⊥) → AreBegun (past ++ e ∷ []) (advanced s (s.epoch + 1))
   advanced_begun none =

@@ -66,3 +66,4 @@ pub mod InsideAreas
 pub mod Begins
 pub mod PrintedCommits
 pub mod PrintedPlaces
+pub mod WithinBounds

@@ -56,7 +56,7 @@ opens_live : (snapshot : List Transaction) (xs : List Active) → opens_of (map 
 opens_live snapshot [] = refl
 opens_live snapshot (x ∷ xs) = ap (λ l. open_of x ∷ l) (opens_live snapshot xs)
 
-slots_commits : (epoch : ℕ) (s : State) (os : List Active) → commits_of (slots_after epoch s os).moves ≡ commits_of s.moves
+pub slots_commits : (epoch : ℕ) (s : State) (os : List Active) → commits_of (slots_after epoch s os).moves ≡ commits_of s.moves
 slots_commits epoch s [] = refl
 slots_commits epoch s (o ∷ os) = slots_commits epoch (slot_after epoch s o.kind o.number) os ∙ by_kind o.kind where
   by_kind : (k : Kind) → commits_of (slot_after epoch s k o.number).moves ≡ commits_of s.moves

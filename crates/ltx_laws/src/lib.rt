@@ -3,6 +3,7 @@
 
 pub mod answers;
 pub mod batch_witnesses;
+pub mod bounds;
 pub mod commits;
 pub mod epochs;
 pub mod floor;

@@ -1,6 +1,6 @@
 //! Versions of a key: a commit installs its write unless a version of the key stands later in the agenda.
 
-ghost use Rattle.std.specs.Prelude.{◌≡◌, ℕ, Bool, true, List, Contains};
+ghost use Rattle.std.specs.Prelude.{◌≡◌, ℕ, Bool, true, Option, None, option_map, List, Contains};
 ghost use Rattle.std.specs.List.{AllByRecursion};
 ghost use Rattle.ltx_model.specs.declared.commands.Line.{Line};
 ghost use Rattle.ltx_model.specs.declared.replies.Entry.{Entry};
@@ -11,6 +11,7 @@ ghost use Rattle.ltx_model.specs.Rows.{run};
 ghost use Rattle.ltx_model.specs.Agenda.{serial, is_member, part_before, commits_of, moves_until};
 ghost use Rattle.ltx_model.specs.States.{Base, IsSound, State, LiveBatch, live_batches, latest};
 ghost use Rattle.ltx_model.specs.Histories.{state};
+ghost use Rattle.ltx_model.specs.Batches.{last_writer_from, last_writer};
 ghost use Rattle.ltx_model.specs.Answers.{IsLegalWith};
 ghost use Rattle.ltx_lemmas.specs.Pairs.{IsPairwise};
 ghost use Rattle.ltx_laws.specs.Orders.{IsPrefix};
@@ -56,4 +57,19 @@ pub fn newest_version_at_a_slot_is_the_snapshot_row()
         → (batch : LiveBatch) → Contains (live_batches (state base history)) batch
         → IsPrefix (chain_of key (moves_until batch.tx.number (state base history).moves))
         (chain_of key (state base history).moves) }
+{}
+
+/// The newest installed version of a key is the key's last writer in the order, deletions included, and there is none exactly where the
+/// key has no writer there; and the newest one of those that were installed before the slot of a live batch is the last writer in its
+/// snapshot.
+pub fn newest_version_is_the_last_writers()
+    ensures now { (built : State → Line → Bool) (base : Base) (history : List Entry) → IsSound base
+        → IsLegalWith built base history → (key : Cell)
+        → option_map (λ t. t.number) (newest (chain_of key (state base history).moves))
+        ≡ last_writer_from None key (serial (state base history).agenda) }
+    ensures snapshot { (built : State → Line → Bool) (base : Base) (history : List Entry) → IsSound base
+        → IsLegalWith built base history → (key : Cell)
+        → (batch : LiveBatch) → Contains (live_batches (state base history)) batch
+        → option_map (λ t. t.number) (newest (chain_of key (moves_until batch.tx.number (state base history).moves)))
+        ≡ last_writer batch key }
 {}
