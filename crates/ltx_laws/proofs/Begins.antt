@@ -162,11 +162,11 @@ module _ (past : List Entry) (s : State) (h : AreBegun past s) (line : Line) (re
       plain (no_end is) (left (closed s session) (IsLive d snapshot) o.number) refl refl (rest session) (pushed (Leave o.number) (d.from, of_session session o at (IsLive d snapshot) kind))
 
   answered_begun : effect_of reply ≡ Answers → (session : ℕ) (op : Op) (next : State) → next.last ≡ s.last → next.epoch ≡ s.epoch → next.moves ≡ s.moves
-      → next.active ≡ change_first (is_of session) (with_step (record { op = op; reply = reply; latest = latest s })) s.active → AreBegun (past ++ e ∷ []) next
+      → next.active ≡ change_first (is_of session) (with_step (record { op = op; reply = reply; order = serial s.agenda; latest = latest s })) s.active → AreBegun (past ++ e ∷ []) next
   answered_begun is session op next last epoch moves active =
       plain (no_answer is) next last epoch
       (subst (AreOpens past s.epoch) (sym active)
-      (all_change (λ o. IsBegunAs past s.epoch o.kind o.number) (λ o. IsBegunAs past s.epoch o.kind o.number) (is_of session) (with_step (record { op = op; reply = reply; latest = latest s })) s.active (λ o b. b) (λ o found b. b) h.opens))
+      (all_change (λ o. IsBegunAs past s.epoch o.kind o.number) (λ o. IsBegunAs past s.epoch o.kind o.number) (is_of session) (with_step (record { op = op; reply = reply; order = serial s.agenda; latest = latest s })) s.active (λ o b. b) (λ o found b. b) h.opens))
       (subst (AreTold past) (sym moves) h.moves)
 
   durable_begun : effect_of reply ≡ Leaves → (epoch : ℕ) (b : Bool) → AreBegun (past ++ e ∷ []) (durable_if b s epoch)

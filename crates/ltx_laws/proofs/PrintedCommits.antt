@@ -14,7 +14,7 @@ use Rattle.ltx_model.specs.Answers.{IsLegalWith}
 use Rattle.ltx_model.specs.Explained.{Open, is_session, Effect, Begins, Answers, Commits, Ends, Leaves, effect_of, opens_after, commit_by, commit_in_session, committed_by, opens_from, committed_from, committed_in}
 use Rattle.ltx_model.proofs.OneMore.{legal-parts}
 use Rattle.ltx_lemmas.proofs.Lists.{some_same, none_some, all_contains, any_item, find_contains, contains_none, contains_cases, contains_front}
-use Rattle.ltx_laws.specs.Structure.{has_slot}
+use Rattle.ltx_model.specs.Agenda.{has_slot}
 use Rattle.ltx_laws.specs.Told.{open_of, opens_of}
 use Rattle.ltx_laws.specs.Commits.{IsCommitOf}
 use Rattle.ltx_laws.specs.Printed.{IsPrintedShort, IsPrintedBatchAt, IsPrintedBatch, IsPrintedCommit}

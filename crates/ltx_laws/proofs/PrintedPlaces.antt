@@ -14,12 +14,13 @@ use Rattle.ltx_model.specs.Histories.{state}
 use Rattle.ltx_model.specs.Answers.{IsLegalWith}
 use Rattle.ltx_model.specs.Explained.{committed_by, committed_in, opens_from, Begins, effect_of}
 use Rattle.ltx_model.proofs.OneMore.{legal-parts}
-use Rattle.ltx_lemmas.specs.Pairs.{IsPairwise}
+use Rattle.ltx_model.specs.Lists.{IsPairwise}
 use Rattle.ltx_lemmas.proofs.Lists.{all_contains, all_back, all_map, any_item, any_contains, contains_back, contains_cases, contains_front, contains_here, contains_none, contains_parts, filter_item, find_any, find_contains, find_passes, find_splits, given_here, given_item, map_here, map_item, parts_join}
-use Rattle.ltx_laws.specs.Structure.{has_slot, IsLiveBatch, Structure}
+use Rattle.ltx_model.specs.Agenda.{has_slot}
+use Rattle.ltx_laws.specs.Structure.{IsLiveBatch, Structure}
 use Rattle.ltx_laws.specs.Orders.{StandsBefore}
 use Rattle.ltx_laws.specs.Commits.{IsCommitOf, IsHomeReply, IsPrintedForwarded}
-use Rattle.ltx_laws.specs.Logs.{moves_through}
+use Rattle.ltx_model.specs.Logs.{moves_through}
 use Rattle.ltx_laws.specs.Printed.{IsPrintedShort, IsPrintedBatchAt, IsPrintedBatch, IsPrintedCommitIn, IsPrintedBefore}
 use Rattle.ltx_laws.proofs.Pairs.{same_number}
 use Rattle.ltx_lemmas.proofs.Pairwise.{pairs_behind}

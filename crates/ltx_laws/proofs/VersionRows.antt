@@ -188,7 +188,7 @@ module _ (built : State → Line → Bool) (base : Base) (history : List Entry) 
   until_parts n = sym (parts_join (λ (m : Timed). is_slot n m.move) (state base history).moves)
 
   module _ (batch : LiveBatch) (live : Contains (live_batches (state base history)) batch) where
-    before : List Timed
+    abbrev before : List Timed
     before = moves_until batch.tx.number (state base history).moves
 
     first : AreLawful [] before

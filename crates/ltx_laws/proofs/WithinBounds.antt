@@ -21,7 +21,8 @@ use Rattle.ltx_model.specs.Agenda.{serial, Move, CommitShort, CommitHome, Commit
 use Rattle.ltx_model.specs.States.{Declaration, Kind, IsShort, IsPending, IsLive, Step, Active, answered_of, transaction_of, Base, IsSound, State, first_state, is_of, active_of, latest}
 use Rattle.ltx_model.specs.Histories.{with_step, begun, answered, closed, moved, left, made_live, with_kind, in_epoch, advanced, durable_if, after, state, state_from}
 use Rattle.ltx_model.specs.Shorts.{holder}
-use Rattle.ltx_model.specs.Answers.{answer, staged, IsLegalFrom, IsLegalWith, begin_short, short_reply, begin_long, long_reply, operation, operation_in, operation_of_short, operation_of_batch, refusal, counted, is_full, advance, last_number, last_epoch, most_operations}
+use Rattle.ltx_model.specs.Answers.{answer, staged, IsLegalFrom, IsLegalWith, begin_short, short_reply, begin_long, long_reply, operation, operation_in, operation_of_short, operation_of_batch, refusal, counted, is_full, advance}
+use Rattle.ltx_model.specs.Limits.{last_number, last_epoch, most_operations}
 use Rattle.ltx_model.specs.Explained.{effect_of, Answers, Leaves}
 use Rattle.ltx_lemmas.proofs.Lists.{some_same, all_map, all_push, all_without, all_change, all_contains, all_find, all_mapped}
 use Rattle.ltx_laws.proofs.Transitions.{Cases, asks, entry_case}
@@ -140,7 +141,7 @@ module _ (built : State → Line → Bool) (s : State) where
       done = h.done;
     } where
       step : Step
-      step = record { op = op; reply = reply; latest = latest s }
+      step = record { op = op; reply = reply; order = serial s.agenda; latest = latest s }
 
       one_more : (u : Active) → active_of s session ≡ Some u → Few u → Few (with_step step u)
       one_more u found few =

@@ -7,7 +7,8 @@ ghost use Rattle.ltx_model.specs.Operations.{Transaction};
 ghost use Rattle.ltx_model.specs.Agenda.{serial};
 ghost use Rattle.ltx_model.specs.States.{Active, Base, IsSound, State};
 ghost use Rattle.ltx_model.specs.Histories.{state};
-ghost use Rattle.ltx_model.specs.Answers.{IsLegalWith, last_number, last_epoch, most_operations};
+ghost use Rattle.ltx_model.specs.Limits.{last_number, last_epoch, most_operations};
+ghost use Rattle.ltx_model.specs.Answers.{IsLegalWith};
 
 /// In each state the last number is at most 9,223,372,036,854,775,807, the epoch at most 4,294,967,294, and an open or committed
 /// transaction has at most 65,536 answered operations.
