@@ -138,7 +138,7 @@ within_moves lower epoch (m ∷ moves) = by_test (nat_lt lower m.epoch && nat_lt
       let under : m.epoch < epoch = ltb-true m.epoch epoch (and_right (nat_lt lower m.epoch) (nat_lt m.epoch epoch) is) in
       by_move m.move low (let high : m.epoch ≤ epoch - 1 = omega arith in high) all
 
-sealed_epoch : (s : State) → (sealed s).epoch ≡ s.epoch - 1
+pub sealed_epoch : (s : State) → (sealed s).epoch ≡ s.epoch - 1
 unfolding sealed
 sealed_epoch s = refl
 

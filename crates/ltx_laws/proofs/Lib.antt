@@ -67,3 +67,7 @@ pub mod Begins
 pub mod PrintedCommits
 pub mod PrintedPlaces
 pub mod WithinBounds
+pub mod FrameFronts
+pub mod Numbered
+pub mod NextBases
+pub mod NumberLists

@@ -11,3 +11,4 @@ pub mod LastWriters
 pub mod Answered
 pub mod Areas
 pub mod Printed
+pub mod Fronts
