@@ -71,3 +71,4 @@ pub mod FrameFronts
 pub mod Numbered
 pub mod NextBases
 pub mod NumberLists
+pub mod SlotMarks

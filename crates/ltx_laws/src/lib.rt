@@ -7,6 +7,7 @@ pub mod bounds;
 pub mod commits;
 pub mod epochs;
 pub mod floor;
+pub mod marks;
 pub mod preserve;
 pub mod printed;
 pub mod priority;
