@@ -145,6 +145,9 @@ sealed_epoch s = refl
 sealed_within : (s : State) → AllByRecursion (IsWithin s.durable (sealed s).epoch) (sealed s).events
 sealed_within s = subst (λ e. AllByRecursion (IsWithin s.durable e) (sealed s).events) (sym (sealed_epoch s)) (subst (AllByRecursion (IsWithin s.durable (s.epoch - 1))) (sym (sealed_events s)) (within_moves s.durable s.epoch s.moves))
 
+pub sealed_closed : (s : State) → IsClosed (sealed s)
+sealed_closed s = all_map (IsWithin s.durable (sealed s).epoch) (IsCommitUpTo (sealed s).epoch) (λ e within. within.1) (sealed s).events (sealed_within s)
+
 -- the frames of entries
 timed_from : (built : State → Line → Bool) (s : State) (history : List Entry) → s.durable < s.epoch → IsLegalFrom built s history → AreInTime s.durable (frames_from s history)
 unfolding IsLegalFrom

@@ -72,3 +72,5 @@ pub mod Numbered
 pub mod NextBases
 pub mod NumberLists
 pub mod SlotMarks
+pub mod MoveCounts
+pub mod SealedFrames

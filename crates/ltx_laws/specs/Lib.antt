@@ -12,3 +12,5 @@ pub mod Answered
 pub mod Areas
 pub mod Printed
 pub mod Fronts
+pub mod AskedLimits
+pub mod FrameLimits

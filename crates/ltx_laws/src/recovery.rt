@@ -1,6 +1,6 @@
 //! What a log gives back: the moves without the drops, and the frames of the flushes.
 
-ghost use Rattle.std.specs.Prelude.{◌≡◌, ℕ, ◌<◌, ◌≤◌, max, Bool, List, [], ◌++◌, map};
+ghost use Rattle.std.specs.Prelude.{◌≡◌, ℕ, ◌-◌, ◌<◌, ◌≤◌, max, Bool, List, [], ◌++◌, map};
 ghost use Rattle.std.specs.List.{AllByRecursion};
 ghost use Rattle.ltx_model.specs.declared.commands.Line.{Line};
 ghost use Rattle.ltx_model.specs.declared.replies.Entry.{Entry};
@@ -8,13 +8,15 @@ ghost use Rattle.ltx_model.specs.declared.rows.StoredRow.{StoredRow};
 ghost use Rattle.ltx_model.specs.Agenda.{serial};
 ghost use Rattle.ltx_model.specs.States.{Base, IsSound, State, serial_through, rows_through};
 ghost use Rattle.ltx_model.specs.Histories.{state};
-ghost use Rattle.ltx_model.specs.Frames.{Frame};
+ghost use Rattle.ltx_model.specs.Frames.{Frame, sealed};
 ghost use Rattle.ltx_model.specs.Answers.{IsLegalWith};
 ghost use Rattle.ltx_model.specs.Rows.{rows_after_last_writes};
 ghost use Rattle.ltx_model.specs.Logs.{frames_of, events_in, events_of, moves_through};
 ghost use Rattle.ltx_model.specs.Played.{Played, number_played, AreLawfulEvents, DoEpochsRise, IsClosed, AreCommitsNew, NeverFalls, after_events, played_list, committed_numbers, rows_after_played};
 ghost use Rattle.ltx_laws.specs.Drops.{logged_agenda, AreLawful};
 ghost use Rattle.ltx_laws.specs.Orders.{IsPrefix};
+ghost use Rattle.ltx_laws.specs.AskedLimits.{AreLinesWithin};
+ghost use Rattle.ltx_laws.specs.FrameLimits.{IsFrame};
 ghost use Rattle.ltx_laws.specs.Fronts.{epoch_after, greatest_number};
 
 /// The moves of slots and commits, without those of batches that left, give the serial order when they are played on an empty
@@ -155,4 +157,15 @@ pub fn next_base_is_sound()
     ensures greatest { (built : State → Line → Bool) (base : Base) (history : List Entry) → IsSound base
         → IsLegalWith built base history
         → greatest_number (events_in (frames_of base history)) ≤ (state base history).last }
+{}
+
+/// Where what the lines write is within the limits of tables, keys and values, the frame that a flush must write is one that a body can
+/// hold: its epochs, numbers, targets and counts are within their bounds, the epochs of its events never fall and are at most its own,
+/// and the writes of each event stand in strictly rising order of table and key. So are all frames of a history.
+pub fn frames_fit_their_bodies()
+    ensures sealed { (built : State → Line → Bool) (base : Base) (history : List Entry) → IsSound base
+        → IsLegalWith built base history → AreLinesWithin history
+        → (state base history).durable < (state base history).epoch - 1 → IsFrame (sealed (state base history)) }
+    ensures written { (built : State → Line → Bool) (base : Base) (history : List Entry) → IsSound base
+        → IsLegalWith built base history → AreLinesWithin history → AllByRecursion IsFrame (frames_of base history) }
 {}
