@@ -24,7 +24,7 @@ use Rattle.ltx_laws.specs.Guards.{WritesNone}
 use Rattle.ltx_laws.specs.Priority.{AsksCommit, IsCommittedAtHome, WasLeast, batch_of}
 use Rattle.ltx_lemmas.proofs.Lists.{any_contains, any_item, all_contains, all_map, all_find, all_from, all_mapped, find_contains, find_passes, given_here, before_contains, true_false, none_some}
 use Rattle.ltx_lemmas.proofs.Searches.{numbered_item, is_written_of}
-use Rattle.ltx_lemmas.proofs.Cells.{same_cell_same, same_cell_refl}
+use Rattle.ltx_model.proofs.CellOrder.{same_cell_same, same_cell_refl}
 use Rattle.ltx_lemmas.proofs.Members.{apart_one}
 use Rattle.ltx_laws.proofs.Pairs.{same_number}
 use Rattle.ltx_laws.proofs.Places.{and_left, and_right}

@@ -13,7 +13,7 @@ use Rattle.ltx_model.specs.Lists.{IsPairwise}
 use Rattle.ltx_laws.specs.Structure.{IsKnown, IsBefore, Structure}
 use Rattle.ltx_lemmas.proofs.Lists.{any_contains, any_item, all_contains, find_contains, find_passes, find_none, before_contains, some_same, none_some, true_false}
 use Rattle.ltx_lemmas.proofs.Searches.{write_at, is_written_of}
-use Rattle.ltx_lemmas.proofs.Cells.{same_cell_refl}
+use Rattle.ltx_model.proofs.CellOrder.{same_cell_refl}
 use Rattle.ltx_laws.proofs.Pairs.{same_number, pairs_all}
 use Rattle.ltx_laws.proofs.Places.{and_left, and_right, both, found_first}
 use Rattle.ltx_laws.proofs.Targets.{target_found}

@@ -15,8 +15,9 @@ use Rattle.ltx_model.specs.Operations.{Transaction, writes_at, covers, looks_up}
 use Rattle.ltx_model.specs.Rows.{row_of, rows_after, rows_after_all, reply_on, found, see, play}
 use Rattle.ltx_model.specs.States.{Step}
 use Rattle.ltx_model.specs.Shorts.{change_of, is_changed, same_writer, cells_of_both, first_change}
-use Rattle.ltx_lemmas.proofs.Cells.{same_cell_refl}
-use Rattle.ltx_lemmas.proofs.Rising.{rising_after_all, same_filter}
+use Rattle.ltx_model.proofs.CellOrder.{same_cell_refl}
+use Rattle.ltx_lemmas.proofs.Rising.{rising_after_all}
+use Rattle.ltx_model.proofs.Rising.{same_filter}
 use Rattle.ltx_lemmas.proofs.Views.{agree_after, agree_written, rows_after_all-push}
 use Rattle.ltx_lemmas.proofs.Searches.{is_in, is_in_before, is_in_now, none_passes, or_else_none}
 

@@ -3,6 +3,7 @@ pub mod WorkedScripts
 pub mod TableSets
 pub mod Orderings
 pub mod Words
+pub mod FirstPlace
 pub mod KeyOrder
 pub mod CellOrder
 pub mod ItemsAt
