@@ -1,5 +1,8 @@
 pub mod OneMore
 pub mod WorkedScripts
+pub mod WorkedLogs
+pub mod WorkedParts
+pub mod Decided
 pub mod TableSets
 pub mod Orderings
 pub mod Words
