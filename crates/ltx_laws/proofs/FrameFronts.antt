@@ -11,7 +11,7 @@ use Rattle.ltx_model.specs.Logs.{frames_from, frames_of, events_in}
 use Rattle.ltx_model.specs.Played.{played_list, committed_numbers, rows_after_played}
 use Rattle.ltx_model.specs.Answers.{IsLegalFrom, IsLegalWith}
 use Rattle.ltx_model.proofs.OneMore.{legal-parts}
-use Rattle.ltx_laws.specs.Fronts.{epoch_after}
+use Rattle.ltx_model.specs.Contents.{epoch_after}
 use Rattle.ltx_laws.proofs.Transitions.{entry_case}
 use Rattle.ltx_laws.proofs.DropsFrames.{Grows, grows_cases, stays_open}
 use Rattle.ltx_laws.proofs.LawfulFrames.{sealed_epoch}

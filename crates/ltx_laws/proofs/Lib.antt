@@ -74,3 +74,5 @@ pub mod NumberLists
 pub mod SlotMarks
 pub mod MoveCounts
 pub mod SealedFrames
+pub mod FloorMembers
+pub mod VersionMarks

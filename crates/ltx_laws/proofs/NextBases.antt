@@ -25,7 +25,7 @@ use Rattle.ltx_lemmas.proofs.Lists.{some_same, none_some, all_from, all_contains
 use Rattle.ltx_model.proofs.CellOrder.{same_cell_refl}
 use Rattle.ltx_lemmas.proofs.Runs.{run_sourced}
 use Rattle.ltx_lemmas.proofs.Rising.{rising_run}
-use Rattle.ltx_laws.specs.Fronts.{number_of_event, greatest_number}
+use Rattle.ltx_model.specs.Recovery.{number_of_event, greatest_number}
 use Rattle.ltx_laws.proofs.Structures.{structure_of}
 use Rattle.ltx_laws.proofs.DropsFrames.{frames_through}
 use Rattle.ltx_laws.proofs.DurableReplies.{durable_closed}

@@ -26,7 +26,7 @@ use Rattle.ltx_model.proofs.OneMore.{state-push, legal-parts, legal-first}
 use Rattle.ltx_lemmas.proofs.Lists.{some_same, none_some, all_append, all_front, all_from, all_contains, all_push, all_without, all_change, all_find, given_here}
 use Rattle.ltx_lemmas.proofs.LastWrites.{rising_writes}
 use Rattle.ltx_laws.specs.AskedLimits.{WritesWithin, AsksWithin, AreLinesWithin}
-use Rattle.ltx_laws.specs.FrameLimits.{IsLogEpoch, IsWithin, AreWithin, IsEvent, IsFrame}
+use Rattle.ltx_model.specs.Spellings.{IsLogEpoch, IsWithin, AreWithin, IsEvent, IsFrame}
 use Rattle.ltx_laws.proofs.Places.{and_left, and_right}
 use Rattle.ltx_laws.proofs.Transitions.{entry_case}
 use Rattle.ltx_laws.proofs.Told.{commits_told}

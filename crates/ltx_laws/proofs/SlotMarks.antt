@@ -36,13 +36,13 @@ place_none [] n all = refl
 place_none (t ∷ ts) n all = ap (λ b. cond b (Some 1) (option_map suc (place_in ts n))) (ne_eqb t.number n all.0) ∙ ap (option_map suc) (place_none ts n all.1)
 
 -- a place, and that it is at most this one
-record IsPlaceUpTo (ts : List Transaction) (n most : ℕ) : Type 0 where
-  place : ℕ
-  is : place_in ts n ≡ Some place
-  low : 1 ≤ place
-  high : place ≤ most
+pub record IsPlaceUpTo (ts : List Transaction) (n most : ℕ) : Type 0 where
+  pub place : ℕ
+  pub is : place_in ts n ≡ Some place
+  pub low : 1 ≤ place
+  pub high : place ≤ most
 
-place_front : (front back : List Transaction) (t : Transaction) → Contains front t → IsPlaceUpTo (front ++ back) t.number (length front)
+pub place_front : (front back : List Transaction) (t : Transaction) → Contains front t → IsPlaceUpTo (front ++ back) t.number (length front)
 place_front [] back t c = absurd (contains_none t c)
 place_front (x ∷ xs) back t c = by_test (x.number == t.number) refl (contains_cases x xs t c) (place_front xs back t) where
   by_test : (b : Bool) → (x.number == t.number) ≡ b → (x ≡ t) ⊎ Contains xs t → (Contains xs t → IsPlaceUpTo (xs ++ back) t.number (length xs)) → IsPlaceUpTo (x ∷ (xs ++ back)) t.number (suc (length xs))
@@ -74,7 +74,7 @@ place_positive (t ∷ ts) n place e = by_test (t.number == n) e where
   by_test true e = subst (λ i. 0 < i) (some_same e) (let r : 0 < 1 = omega arith in r)
   by_test false e = by_place (place_in ts n) e
 
-place_behind : (front back : List Transaction) (n place : ℕ) → AllByRecursion (λ t. (t.number == n) ≡ false) front → place_in (front ++ back) n ≡ Some place → length front < place
+pub place_behind : (front back : List Transaction) (n place : ℕ) → AllByRecursion (λ t. (t.number == n) ≡ false) front → place_in (front ++ back) n ≡ Some place → length front < place
 place_behind [] back n place none e = place_positive back n place e
 place_behind (x ∷ xs) back n place none e = by_place (place_in (xs ++ back) n) refl (sym (ap (λ b. cond b (Some 1) (option_map suc (place_in (xs ++ back) n))) none.0) ∙ e) (λ k. place_behind xs back n k none.1) where
   by_place : (o : Option ℕ) → place_in (xs ++ back) n ≡ o → option_map suc o ≡ Some place → ((k : ℕ) → place_in (xs ++ back) n ≡ Some k → length xs < k) → suc (length xs) < place
@@ -85,10 +85,10 @@ place_behind (x ∷ xs) back n place none e = by_place (place_in (xs ++ back) n)
       let r : suc (length xs) < place = omega arith in r
 
 -- moves around a slot
-record IsSlotBetween (n : ℕ) (moves : List Timed) : Type 0 where
-  slot : Timed
-  parts : moves ≡ moves_until n moves ++ slot ∷ moves_since n moves
-  is : is_slot n slot.move ≡ true
+pub record IsSlotBetween (n : ℕ) (moves : List Timed) : Type 0 where
+  pub slot : Timed
+  pub parts : moves ≡ moves_until n moves ++ slot ∷ moves_since n moves
+  pub is : is_slot n slot.move ≡ true
 
 slot_between : (n : ℕ) (moves : List Timed) → has_slot moves n ≡ true → IsSlotBetween n moves
 slot_between n [] e = absurd (true_false (sym e))
@@ -247,11 +247,14 @@ module _ (built : State → Line → Bool) (base : Base) (history : List Entry) 
     abbrev front : List Transaction
     front = commits_of (moves_until b.tx.number s.moves)
 
-    between : IsSlotBetween b.tx.number s.moves
+    pub between : IsSlotBetween b.tx.number s.moves
     between = slot_between b.tx.number s.moves slotted
 
-    commits_parts : (back : List Transaction) × (commits_of s.moves ≡ front ++ back)
-    commits_parts = (commits_of (between.slot ∷ moves_since b.tx.number s.moves), ap commits_of between.parts ∙ given_append (λ (m : Timed). commit_of m.move) (moves_until b.tx.number s.moves) (between.slot ∷ moves_since b.tx.number s.moves))
+    abbrev behind : List Transaction
+    behind = commits_of (between.slot ∷ moves_since b.tx.number s.moves)
+
+    pub commits_parts : commits_of s.moves ≡ front ++ behind
+    commits_parts = ap commits_of between.parts ∙ given_append (λ (m : Timed). commit_of m.move) (moves_until b.tx.number s.moves) (between.slot ∷ moves_since b.tx.number s.moves)
 
     permuted : IsPermutation front b.snapshot
     permuted =
@@ -265,8 +268,8 @@ module _ (built : State → Line → Bool) (base : Base) (history : List Entry) 
 
     pub within_mark : (t : Transaction) → Contains b.snapshot t → (c : ℕ) × (number_of_commit s.moves t.number ≡ Some c) × (c ≤ length front)
     within_mark t here =
-        let h : IsPlaceUpTo (front ++ commits_parts.0) t.number (length front) = place_front front commits_parts.0 t (Contains-permutation b.snapshot front t (IsPermutation-sym front b.snapshot permuted) here) in
-        (h.place, ap (λ l. place_in l t.number) commits_parts.1 ∙ h.is, h.high)
+        let h : IsPlaceUpTo (front ++ behind) t.number (length front) = place_front front behind t (Contains-permutation b.snapshot front t (IsPermutation-sym front b.snapshot permuted) here) in
+        (h.place, ap (λ l. place_in l t.number) commits_parts ∙ h.is, h.high)
 
     -- in the snapshot, or above the mark
     by_mark : (t : Transaction) → Contains (serial s.agenda) t → Contains b.snapshot t ⊎ ((Contains front t → ⊥) × ((c : ℕ) → number_of_commit s.moves t.number ≡ Some c → length front < c))
@@ -274,11 +277,11 @@ module _ (built : State → Line → Bool) (base : Base) (history : List Entry) 
       by_test : (e : Bool) → list_any (λ u. u.number == t.number) front ≡ e → Contains b.snapshot t ⊎ ((Contains front t → ⊥) × ((c : ℕ) → number_of_commit s.moves t.number ≡ Some c → length front < c))
       by_test true is =
           let (u, c, same) = any_item (λ (u : Transaction). u.number == t.number) front is in
-          let there : Contains (serial s.agenda) u = commit_there u (subst (λ l. Contains l u) (sym commits_parts.1) (contains_front front commits_parts.0 u c)) in
+          let there : Contains (serial s.agenda) u = commit_there u (subst (λ l. Contains l u) (sym commits_parts) (contains_front front behind u c)) in
           inl (Contains-permutation front b.snapshot t permuted (subst (Contains front) (one u t there here (eqb-true u.number t.number same)) c))
       by_test false is = inr (
         λ c. both_ways (list_any (λ (u : Transaction). u.number == t.number) front) is (any_contains (λ (u : Transaction). u.number == t.number) front t c (eq-eqb t.number t.number refl)),
-        λ c e. place_behind front commits_parts.0 t.number c (any_not_all (λ (u : Transaction). u.number == t.number) front is) (ap (λ l. place_in l t.number) (sym commits_parts.1) ∙ e),
+        λ c e. place_behind front behind t.number c (any_not_all (λ (u : Transaction). u.number == t.number) front is) (ap (λ l. place_in l t.number) (sym commits_parts) ∙ e),
       )
 
     pub up_to_mark : (t : Transaction) → Contains (serial s.agenda) t → (c : ℕ) → number_of_commit s.moves t.number ≡ Some c → c ≤ length front → Contains b.snapshot t

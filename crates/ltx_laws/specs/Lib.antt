@@ -11,6 +11,4 @@ pub mod LastWriters
 pub mod Answered
 pub mod Areas
 pub mod Printed
-pub mod Fronts
 pub mod AskedLimits
-pub mod FrameLimits

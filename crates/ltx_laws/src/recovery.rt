@@ -16,8 +16,9 @@ ghost use Rattle.ltx_model.specs.Played.{Played, number_played, AreLawfulEvents,
 ghost use Rattle.ltx_laws.specs.Drops.{logged_agenda, AreLawful};
 ghost use Rattle.ltx_laws.specs.Orders.{IsPrefix};
 ghost use Rattle.ltx_laws.specs.AskedLimits.{AreLinesWithin};
-ghost use Rattle.ltx_laws.specs.FrameLimits.{IsFrame};
-ghost use Rattle.ltx_laws.specs.Fronts.{epoch_after, greatest_number};
+ghost use Rattle.ltx_model.specs.Spellings.{IsFrame};
+ghost use Rattle.ltx_model.specs.Contents.{epoch_after};
+ghost use Rattle.ltx_model.specs.Recovery.{greatest_number};
 
 /// The moves of slots and commits, without those of batches that left, give the serial order when they are played on an empty
 /// list; and so do those of the epochs up to any one give the order through it.
