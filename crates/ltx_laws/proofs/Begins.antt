@@ -1,5 +1,5 @@
 -- What was begun is told by the entries: the kind of each open transaction, and of each one that the moves name.
-use Rattle.std.proofs.Common.{◌≡◌, ◌⊎◌, inl, inr, ℕ, ◌+◌, ◌<◌, ◌≤◌, Bool, true, false, nat_lt, List, [], ◌∷◌, ◌++◌, map, Option, Some, refl, sym, ap, ◌∙◌, subst, append_assoc, append-nil, arith, le_refl, Contains}
+use Rattle.std.proofs.Common.{◌≡◌, ◌⊎◌, inl, inr, ℕ, ◌+◌, ◌<◌, ◌≤◌, Bool, true, false, nat_lt, List, [], ◌∷◌, ◌++◌, map, Some, refl, sym, ap, ◌∙◌, subst, append_assoc, append-nil, arith, le_refl, Contains}
 use Rattle.std.specs.List.{cons_option, AllByRecursion}
 use Rattle.ltx_model.specs.declared.commands.Op.{Op}
 use Rattle.ltx_model.specs.declared.commands.Line.{Line}
@@ -10,18 +10,16 @@ use Rattle.ltx_model.specs.declared.replies.Entry.{Entry}
 use Rattle.ltx_model.specs.declared.replies.Reply.{Reply}
 use Rattle.ltx_model.specs.declared.replies.Reply.TheVariants as replies
 use Rattle.ltx_model.specs.Lists.{change_first, without_first}
-use Rattle.ltx_model.specs.Operations.{Transaction}
 use Rattle.ltx_model.specs.Agenda.{serial, Move, Slot, CommitShort, CommitHome, CommitBefore, Leave, Timed}
 use Rattle.ltx_model.specs.States.{Declaration, Kind, IsShort, IsPending, IsLive, Active, transaction_of, Base, State, first_state, is_of, active_of, latest}
 use Rattle.ltx_model.specs.Histories.{with_step, closed, left, begun, answered, moved, slot_after, slots_after, made_live, with_kind, in_epoch, advanced, durable_if, after, state, state_from}
-use Rattle.ltx_model.specs.Answers.{staged, IsLegalFrom, IsLegalWith}
+use Rattle.ltx_model.specs.Answers.{IsLegalFrom, IsLegalWith}
 use Rattle.ltx_model.specs.Explained.{Effect, Begins, Answers, Commits, Ends, Leaves, effect_of}
 use Rattle.ltx_lemmas.proofs.Lists.{all_map, all_push, all_append, all_without, all_change, all_find, all_mapped, contains_front, contains_parts, contains_cases, contains_none, contains_back, contains_here}
 use Rattle.ltx_laws.specs.Printed.{IsPrintedShort, IsPrintedBatchAt, IsPrintedBatch}
 use Rattle.ltx_laws.proofs.Transitions.{Cases, asks, entry_case}
 use Rattle.ltx_laws.proofs.StructureSlots.{slots_active}
 use Rattle.ltx_laws.proofs.FloorCounts.{slot_if, slots_of, advanced_moves}
-use Rattle.ltx_laws.proofs.DropsFrames.{slots_keep}
 
 -- the begin of an open transaction was printed, that of a pending batch with the next epoch
 abbrev pub IsBegunAs : List Entry → ℕ → Kind → ℕ → Type 0

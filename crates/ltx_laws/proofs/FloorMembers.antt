@@ -4,10 +4,10 @@ use Rattle.std.proofs.lemmas.Bool.{both_ways, false_from_ne_true}
 use Rattle.ltx_model.specs.declared.commands.Line.{Line}
 use Rattle.ltx_model.specs.declared.replies.Entry.{Entry}
 use Rattle.ltx_model.specs.Operations.{Transaction}
-use Rattle.ltx_model.specs.Agenda.{Member, Committed, has_number, is_member, part_before, part_from, serial, CommitShort}
+use Rattle.ltx_model.specs.Agenda.{Member, Committed, has_number, is_member, part_from, CommitShort}
 use Rattle.ltx_model.specs.States.{Declaration, IsLive, Active, transaction_of, as_live, Base, IsSound, State, first_state, is_of, LiveBatch, live_batches}
 use Rattle.ltx_model.specs.Histories.{closed, moved, after, state}
-use Rattle.ltx_model.specs.Batches.{target, Overtakes, IsOvertakenCommit, IsOvertakenLive, Witness, is_from, IsLate, IsContradicted, MayRead, floor, before_floor}
+use Rattle.ltx_model.specs.Batches.{target, Overtakes, Witness, is_from, IsLate, IsContradicted, MayRead, floor, before_floor}
 use Rattle.ltx_model.specs.Answers.{IsLegalWith}
 use Rattle.ltx_model.proofs.OneMore.{legal-parts, state-push}
 use Rattle.ltx_lemmas.specs.Places.{is_before, AreApart, is_at_or_after}

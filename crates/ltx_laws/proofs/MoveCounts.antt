@@ -1,5 +1,5 @@
 -- Each number that was given has at most two moves: a slot, and a commit or the end of its batch.
-use Rattle.std.proofs.Common.{◌≡◌, ℕ, suc, ◌+◌, ◌≤◌, Bool, true, false, cond, nat_lt, List, [], ◌∷◌, ◌++◌, map, length, Option, Some, None, refl, sym, ap, ◌∙◌, subst, arith, le_refl}
+use Rattle.std.proofs.Common.{◌≡◌, ℕ, suc, ◌+◌, ◌≤◌, Bool, true, false, cond, nat_lt, List, [], ◌∷◌, ◌++◌, map, length, Some, refl, sym, ap, subst, arith, le_refl}
 use Rattle.std.proofs.lemmas.List.{length-append}
 use Rattle.std.specs.List.{find, cons_option}
 use Rattle.ltx_model.specs.declared.commands.Op.{Op}
@@ -8,9 +8,9 @@ use Rattle.ltx_model.specs.declared.replies.Entry.{Entry}
 use Rattle.ltx_model.specs.declared.replies.Reply.{Reply}
 use Rattle.ltx_model.specs.Lists.{change_first, without_first}
 use Rattle.ltx_model.specs.Operations.{Transaction}
-use Rattle.ltx_model.specs.Agenda.{serial, Move, CommitShort, CommitHome, CommitBefore, Leave, Timed}
-use Rattle.ltx_model.specs.States.{Declaration, Kind, IsShort, IsPending, IsLive, Step, Active, transaction_of, Base, State, first_state, is_of, active_of, latest}
-use Rattle.ltx_model.specs.Histories.{with_step, begun, answered, closed, moved, left, made_live, with_kind, in_epoch, advanced, durable_if, state}
+use Rattle.ltx_model.specs.Agenda.{serial, CommitShort, CommitHome, CommitBefore, Leave, Timed}
+use Rattle.ltx_model.specs.States.{Kind, IsShort, IsPending, IsLive, Step, Active, transaction_of, Base, State, first_state, is_of, active_of, latest}
+use Rattle.ltx_model.specs.Histories.{with_step, answered, closed, left, made_live, with_kind, in_epoch, advanced, durable_if, state}
 use Rattle.ltx_model.specs.Answers.{IsLegalWith}
 use Rattle.ltx_lemmas.proofs.Lists.{some_same, none_some}
 use Rattle.ltx_laws.proofs.Transitions.{Cases, along}

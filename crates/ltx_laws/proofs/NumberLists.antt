@@ -1,8 +1,7 @@
 -- The agenda's moves on its numbers alone.
-use Rattle.std.proofs.Common.{◌≡◌, ℕ, Bool, true, false, cond, not, ◌==◌, List, [], ◌∷◌, ◌++◌, map, refl, sym, ap, ◌∙◌, subst}
+use Rattle.std.proofs.Common.{◌≡◌, ℕ, Bool, true, false, cond, not, List, [], ◌∷◌, ◌++◌, map, refl, sym, ap, ◌∙◌, subst}
 use Rattle.ltx_model.specs.declared.commands.Line.{Line}
 use Rattle.ltx_model.specs.declared.replies.Entry.{Entry}
-use Rattle.ltx_model.specs.Operations.{Transaction}
 use Rattle.ltx_model.specs.Listings.{without, numbers_of, list_after, list_from}
 use Rattle.ltx_model.specs.Listings as numbers
 use Rattle.ltx_model.specs.Agenda.{Member, LiveSlot, Committed, number_of, has_number, without_member, insert_before, Move, Slot, CommitShort, CommitHome, CommitBefore, Leave, Timed, agenda_after, agenda_from}

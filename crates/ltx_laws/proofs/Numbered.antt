@@ -1,13 +1,12 @@
 -- The numbers that moves name are above the base's last one and at most the state's.
-use Rattle.std.proofs.Common.{◌≡◌, ℕ, ◌+◌, ◌<◌, ◌≤◌, Bool, true, false, nat_lt, List, [], ◌∷◌, ◌++◌, Option, Some, refl, sym, subst, arith, le_refl}
+use Rattle.std.proofs.Common.{◌≡◌, ℕ, ◌+◌, ◌<◌, ◌≤◌, Bool, true, false, nat_lt, List, [], ◌∷◌, ◌++◌, Some, sym, subst, arith}
 use Rattle.std.specs.List.{cons_option, AllByRecursion}
 use Rattle.ltx_model.specs.declared.commands.Line.{Line}
 use Rattle.ltx_model.specs.declared.replies.Entry.{Entry}
-use Rattle.ltx_model.specs.Agenda.{Member, number_of, is_member, Move, Slot, CommitShort, CommitHome, CommitBefore, Leave, Timed}
-use Rattle.ltx_model.specs.States.{Declaration, Kind, IsShort, IsPending, IsLive, Active, transaction_of, Base, State, first_state, is_of, active_of}
-use Rattle.ltx_model.specs.Histories.{closed, moved, left, in_epoch, advanced, durable_if, after, state, state_from}
+use Rattle.ltx_model.specs.Agenda.{is_member, Move, Slot, CommitShort, CommitHome, CommitBefore, Leave, Timed}
+use Rattle.ltx_model.specs.States.{Kind, IsShort, IsPending, IsLive, Active, transaction_of, Base, State, first_state, is_of, active_of}
+use Rattle.ltx_model.specs.Histories.{closed, left, in_epoch, advanced, durable_if, after, state, state_from}
 use Rattle.ltx_model.specs.Answers.{IsLegalFrom, IsLegalWith}
-use Rattle.ltx_model.specs.Batches.{target}
 use Rattle.ltx_lemmas.proofs.Lists.{all_map, all_push, all_append, all_find}
 use Rattle.ltx_laws.specs.Structure.{Structure}
 use Rattle.ltx_laws.proofs.Places.{all_at}

@@ -1,17 +1,15 @@
 -- What the entries print of commits is what they are in the state: a short's or a batch's, by the begin that was printed.
-use Rattle.std.proofs.Common.{◌≡◌, ◌⊎◌, inl, inr, ℕ, ◌<◌, Bool, true, false, ◌==◌, List, [], ◌∷◌, ◌++◌, Option, Some, None, option_map, refl, sym, ap, ◌∙◌, subst, Contains}
+use Rattle.std.proofs.Common.{◌≡◌, ◌⊎◌, inl, inr, ℕ, Bool, true, false, List, [], ◌∷◌, ◌++◌, Option, Some, None, option_map, refl, sym, ap, ◌∙◌, subst, Contains}
 use Rattle.std.proofs.lemmas.Bool.{eqb-true, false_from_ne_true}
-use Rattle.std.specs.List.{find, cons_option}
+use Rattle.std.specs.List.{cons_option}
 use Rattle.ltx_model.specs.declared.commands.Line.{Line}
 use Rattle.ltx_model.specs.declared.replies.Entry.{Entry}
-use Rattle.ltx_model.specs.declared.replies.Reply.{Reply}
-use Rattle.ltx_model.specs.declared.replies.Reply.TheVariants as replies
 use Rattle.ltx_model.specs.Operations.{Transaction}
 use Rattle.ltx_model.specs.Agenda.{Move, Slot, CommitShort, CommitHome, CommitBefore, Leave, Timed, is_slot}
 use Rattle.ltx_model.specs.States.{Declaration, Kind, IsShort, IsPending, IsLive, Active, transaction_of, Base, IsSound, State, first_state, is_of, active_of}
 use Rattle.ltx_model.specs.Histories.{session_of, state}
 use Rattle.ltx_model.specs.Answers.{IsLegalWith}
-use Rattle.ltx_model.specs.Explained.{Open, is_session, Effect, Begins, Answers, Commits, Ends, Leaves, effect_of, opens_after, commit_by, commit_in_session, committed_by, opens_from, committed_from, committed_in}
+use Rattle.ltx_model.specs.Explained.{Open, Effect, Begins, Answers, Commits, Ends, Leaves, effect_of, opens_after, commit_by, commit_in_session, committed_by, opens_from, committed_from, committed_in}
 use Rattle.ltx_model.proofs.OneMore.{legal-parts}
 use Rattle.ltx_lemmas.proofs.Lists.{some_same, none_some, all_contains, any_item, find_contains, contains_none, contains_cases, contains_front}
 use Rattle.ltx_model.specs.Agenda.{has_slot}

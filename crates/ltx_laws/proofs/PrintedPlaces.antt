@@ -1,6 +1,6 @@
 -- Places and refusals, said of what is printed.
-use Rattle.std.proofs.Common.{◌≡◌, ◌⊎◌, inl, inr, ℕ, ◌<◌, ◌≤◌, Bool, true, false, ◌==◌, nat_le, List, [], ◌∷◌, ◌++◌, map, Option, Some, refl, sym, ap, ◌∙◌, subst, append_assoc, arith, le_refl, Contains, IsPermutation}
-use Rattle.std.proofs.lemmas.Bool.{leb-true, eqb-true}
+use Rattle.std.proofs.Common.{◌≡◌, ◌⊎◌, inl, inr, ℕ, ◌<◌, ◌≤◌, Bool, true, ◌==◌, nat_le, List, [], ◌∷◌, ◌++◌, Some, sym, ap, ◌∙◌, subst, append_assoc, arith, le_refl, Contains}
+use Rattle.std.proofs.lemmas.Bool.{leb-true}
 use Rattle.std.proofs.lemmas.List.Sorted.{Contains-permutation, IsPermutation-sym}
 use Rattle.std.specs.List.{list_any, AllByRecursion}
 use Rattle.ltx_model.specs.declared.commands.Line.{Line}
@@ -9,17 +9,17 @@ use Rattle.ltx_model.specs.declared.replies.Reply.TheVariants as replies
 use Rattle.ltx_model.specs.Lists.{from_first}
 use Rattle.ltx_model.specs.Operations.{Transaction}
 use Rattle.ltx_model.specs.Agenda.{Move, Slot, CommitShort, CommitHome, CommitBefore, Leave, Timed, agenda_from, commit_of, commits_of, is_slot, moves_until, serial}
-use Rattle.ltx_model.specs.States.{Declaration, IsShort, IsLive, Active, transaction_of, Base, IsSound, State, first_state, order, serial_through}
+use Rattle.ltx_model.specs.States.{IsShort, Active, transaction_of, Base, IsSound, State, first_state, order, serial_through}
 use Rattle.ltx_model.specs.Histories.{state}
 use Rattle.ltx_model.specs.Answers.{IsLegalWith}
-use Rattle.ltx_model.specs.Explained.{committed_by, committed_in, opens_from, Begins, effect_of}
+use Rattle.ltx_model.specs.Explained.{committed_by, committed_in, opens_from, effect_of}
 use Rattle.ltx_model.proofs.OneMore.{legal-parts}
 use Rattle.ltx_model.specs.Lists.{IsPairwise}
-use Rattle.ltx_lemmas.proofs.Lists.{all_contains, all_back, all_map, any_item, any_contains, contains_back, contains_cases, contains_front, contains_here, contains_none, contains_parts, filter_item, find_any, find_contains, find_passes, find_splits, given_here, given_item, map_here, map_item, parts_join}
+use Rattle.ltx_lemmas.proofs.Lists.{all_contains, any_item, contains_cases, contains_front, contains_parts, filter_item, find_any, find_contains, find_passes, find_splits, given_here, given_item, map_item, parts_join}
 use Rattle.ltx_model.specs.Agenda.{has_slot}
-use Rattle.ltx_laws.specs.Structure.{IsLiveBatch, Structure}
+use Rattle.ltx_laws.specs.Structure.{IsLiveBatch}
 use Rattle.ltx_laws.specs.Orders.{StandsBefore}
-use Rattle.ltx_laws.specs.Commits.{IsCommitOf, IsHomeReply, IsPrintedForwarded}
+use Rattle.ltx_laws.specs.Commits.{IsHomeReply, IsPrintedForwarded}
 use Rattle.ltx_model.specs.Logs.{moves_through}
 use Rattle.ltx_laws.specs.Printed.{IsPrintedShort, IsPrintedBatchAt, IsPrintedBatch, IsPrintedCommitIn, IsPrintedBefore}
 use Rattle.ltx_laws.proofs.Pairs.{same_number}

@@ -1,6 +1,6 @@
 -- The frames of flushes are within the limits of a body.
-use Rattle.std.proofs.Common.{◌≡◌, ◌⊎◌, inl, inr, ℕ, suc, ◌+◌, ◌-◌, ◌<◌, ◌≤◌, ◌^◌, Bool, true, false, cond, ◌&&◌, nat_lt, List, [], ◌∷◌, ◌++◌, map, length, filter, Option, Some, None, option_map, refl, sym, ap, ◌∙◌, subst, append_assoc, append-nil, arith, le_refl, Contains}
-use Rattle.std.proofs.lemmas.Bool.{ltb-true, ltb-false}
+use Rattle.std.proofs.Common.{◌≡◌, ◌⊎◌, inl, inr, ℕ, suc, ◌+◌, ◌-◌, ◌<◌, ◌≤◌, ◌^◌, Bool, true, false, cond, ◌&&◌, nat_lt, List, [], ◌∷◌, ◌++◌, map, length, filter, Option, Some, None, option_map, refl, sym, subst, append_assoc, arith, le_refl, Contains}
+use Rattle.std.proofs.lemmas.Bool.{ltb-true}
 use Rattle.std.proofs.lemmas.List.{length-map}
 use Rattle.std.specs.List.{cons_option, find, AllByRecursion}
 use Rattle.std.specs.declared.cmp.Ordering.{Ordering}
@@ -12,18 +12,18 @@ use Rattle.ltx_model.specs.declared.replies.Entry.{Entry}
 use Rattle.ltx_model.specs.declared.replies.Reply.{Reply}
 use Rattle.ltx_model.specs.declared.writes.Write.{Write}
 use Rattle.ltx_model.specs.Limits.{last_number, last_epoch, last_durable, most_operations}
-use Rattle.ltx_model.specs.Lists.{change_first, without_first}
-use Rattle.ltx_model.specs.Keys.{Cell, cell_cmp, put_at, put_in_order}
+use Rattle.ltx_model.specs.Lists.{without_first}
+use Rattle.ltx_model.specs.Keys.{cell_cmp, put_at, put_in_order}
 use Rattle.ltx_model.specs.Operations.{Answered, Transaction, operations, write_of, cell_of_write, put_write, writes_after, writes_of}
-use Rattle.ltx_model.specs.Agenda.{Move, Slot, CommitShort, CommitHome, CommitBefore, Leave, Timed, commit_of, commits_of, serial}
+use Rattle.ltx_model.specs.Agenda.{Move, Slot, CommitShort, CommitHome, CommitBefore, Leave, Timed, commit_of, commits_of}
 use Rattle.ltx_model.specs.States.{Base, IsSound, State, first_state}
-use Rattle.ltx_model.specs.Frames.{LogEvent, Frame, event_of, writes_in, sealed}
+use Rattle.ltx_model.specs.Frames.{LogEvent, event_of, writes_in, sealed}
 use Rattle.ltx_model.specs.Logs.{frames_from, frames_of, events_of}
 use Rattle.ltx_model.specs.Histories.{session_of, operation_of, after, state, state_from}
-use Rattle.ltx_model.specs.Answers.{IsLegalFrom, IsLegalWith}
-use Rattle.ltx_model.specs.Explained.{Open, is_session, Effect, Begins, Answers, Commits, Ends, Leaves, effect_of, with_answer, answers_if, opens_by, opens_in, opens_after, commit_by, commit_in_session, committed_by, opens_from, committed_from, committed_in}
+use Rattle.ltx_model.specs.Answers.{IsLegalWith}
+use Rattle.ltx_model.specs.Explained.{Open, is_session, Effect, Begins, Answers, Commits, Ends, Leaves, effect_of, with_answer, answers_if, opens_by, opens_in, opens_after, commit_by, commit_in_session, committed_by, committed_from}
 use Rattle.ltx_model.proofs.OneMore.{state-push, legal-parts, legal-first}
-use Rattle.ltx_lemmas.proofs.Lists.{some_same, none_some, all_append, all_front, all_from, all_contains, all_push, all_without, all_change, all_find, given_here}
+use Rattle.ltx_lemmas.proofs.Lists.{some_same, none_some, all_front, all_from, all_contains, all_push, all_without, all_change, all_find, given_here}
 use Rattle.ltx_lemmas.proofs.LastWrites.{rising_writes}
 use Rattle.ltx_laws.specs.AskedLimits.{WritesWithin, AsksWithin, AreLinesWithin}
 use Rattle.ltx_model.specs.Spellings.{IsLogEpoch, IsWithin, AreWithin, IsEvent, IsFrame}
@@ -194,10 +194,10 @@ module _ (built : State → Line → Bool) (base : Base) (history : List Entry) 
 
   fine : AllByRecursion (IsFine base.last s.last) s.moves
   fine = all_from (IsFine base.last s.last) s.moves (λ m here. (
-      all_contains (λ (x : Timed). AreAmong base.last s.last x.move) s.moves m (numbered_of built base history legal) here,
-      λ t is. let c : Contains (commits_of s.moves) t = given_here (λ (x : Timed). commit_of x.move) s.moves m t here is in
-          transaction_within t (all_contains IsAskedBy (commits_of s.moves) t asked c) (all_contains (λ (u : Transaction). length u.answered ≤ most_operations) (commits_of s.moves) t bounded.done c),
-    ))
+    all_contains (λ (x : Timed). AreAmong base.last s.last x.move) s.moves m (numbered_of built base history legal) here,
+    λ t is. let c : Contains (commits_of s.moves) t = given_here (λ (x : Timed). commit_of x.move) s.moves m t here is in
+        transaction_within t (all_contains IsAskedBy (commits_of s.moves) t asked c) (all_contains (λ (u : Transaction). length u.answered ≤ most_operations) (commits_of s.moves) t bounded.done c),
+  ))
 
   pub sealed_fits : s.durable < s.epoch - 1 → IsFrame (sealed s)
   sealed_fits ahead = record {

@@ -1,33 +1,31 @@
 -- Marks: which batches are live by their moves, and that the mark of a slot divides the commits into its snapshot and the others.
-use Rattle.std.proofs.Common.{◌≡◌, ◌≢◌, ◌⊎◌, inl, inr, ℕ, suc, ◌+◌, ◌<◌, ◌≤◌, Bool, true, false, cond, not, ◌||◌, ◌==◌, nat_lt, List, [], ◌∷◌, ◌++◌, length, map, Option, Some, None, option_map, refl, sym, ap, ◌∙◌, subst, subst₂, append_assoc, append-nil, arith, Contains, IsPermutation}
-use Rattle.std.proofs.lemmas.Bool.{both_ways, eqb-true, eq-eqb, ne_eqb, lt-ltb, le-ltb, not-true, false_from_ne_true}
+use Rattle.std.proofs.Common.{◌≡◌, ◌≢◌, ◌⊎◌, inl, inr, ℕ, suc, ◌<◌, ◌≤◌, Bool, true, false, cond, not, ◌||◌, ◌==◌, nat_lt, List, [], ◌∷◌, ◌++◌, length, Option, Some, None, option_map, refl, sym, ap, ◌∙◌, subst, append_assoc, append-nil, arith, Contains, IsPermutation}
+use Rattle.std.proofs.lemmas.Bool.{both_ways, eqb-true, eq-eqb, ne_eqb, lt-ltb, le-ltb, not-true}
 use Rattle.std.proofs.lemmas.List.Sorted.{Contains-permutation, IsPermutation-sym}
 use Rattle.std.specs.List.{list_any, AllByRecursion}
 use Rattle.ltx_model.specs.declared.commands.Line.{Line}
 use Rattle.ltx_model.specs.declared.replies.Entry.{Entry}
-use Rattle.ltx_model.specs.Lists.{from_first}
 use Rattle.ltx_model.specs.Operations.{Transaction}
 use Rattle.ltx_model.specs.Agenda.{Member, LiveSlot, Committed, number_of, has_number, is_member, without_member, agenda_after, agenda_from, Move, Slot, CommitShort, CommitHome, CommitBefore, Leave, Timed, is_slot, has_slot, commits_batch, commits_after, commit_of, commits_of, moves_since, moves_until, part_before, serial}
 use Rattle.ltx_model.specs.Marks.{mark_of_slot, place_in, number_of_commit, newest_mark}
-use Rattle.ltx_model.specs.States.{Declaration, Kind, IsShort, IsPending, IsLive, Active, transaction_of, Base, IsSound, State, LiveBatch, as_live, live_batches}
+use Rattle.ltx_model.specs.States.{Kind, IsShort, IsPending, IsLive, Active, transaction_of, Base, IsSound, State, LiveBatch, as_live, live_batches}
 use Rattle.ltx_model.specs.Histories.{state}
 use Rattle.ltx_model.specs.Answers.{IsLegalWith}
-use Rattle.ltx_model.specs.Explained.{committed_in}
 use Rattle.ltx_lemmas.specs.Places.{AreApart}
-use Rattle.ltx_lemmas.proofs.Lists.{some_same, none_some, true_false, all_contains, all_from, any_contains, any_item, any_not, any_not_all, contains_back, contains_cases, contains_front, contains_here, contains_later, contains_none, contains_parts, filter_item, given_append, given_here, given_item, parts_join}
+use Rattle.ltx_lemmas.proofs.Lists.{some_same, none_some, true_false, all_contains, all_from, any_contains, any_item, any_not_all, contains_back, contains_cases, contains_front, contains_here, contains_none, contains_parts, filter_item, given_append, given_here, given_item}
 use Rattle.ltx_lemmas.proofs.Members.{apart_one, before_member, member_push_old, member_push_new, member_home, member_without_other, member_insert_other, member_insert_new}
 use Rattle.ltx_lemmas.proofs.Serials.{serial_here, serial_member}
-use Rattle.ltx_laws.specs.Structure.{IsKnown, IsSlotOfLive, IsLiveBatch, StandsAs, Stands, is_live_as, if_live, Structure}
+use Rattle.ltx_laws.specs.Structure.{IsKnown, IsLiveBatch, StandsAs, Stands, is_live_as, if_live, Structure}
 use Rattle.ltx_laws.specs.Drops.{leaves, has_left, logged_agenda, IsLawful, AreLawful}
-use Rattle.ltx_laws.specs.Printed.{IsPrintedShort, IsPrintedBatch}
-use Rattle.ltx_laws.proofs.Agendas.{agenda_more, any_push_not, or_false}
+use Rattle.ltx_laws.specs.Printed.{IsPrintedShort}
+use Rattle.ltx_laws.proofs.Agendas.{agenda_more, any_push_not}
 use Rattle.ltx_laws.proofs.Places.{before_apart}
 use Rattle.ltx_laws.proofs.Structures.{structure_of}
 use Rattle.ltx_laws.proofs.DropsLists.{IsLoggedAfter, logged_all, slot_stays, lawful_front}
 use Rattle.ltx_laws.proofs.DropsHistories.{timely_of}
 use Rattle.ltx_laws.proofs.CommitEpochs.{theirs_all}
 use Rattle.ltx_laws.proofs.LiveStates.{IsOpenBatch, open_batch}
-use Rattle.ltx_laws.proofs.Begins.{IsToldMove, AreBegun, begun_of}
+use Rattle.ltx_laws.proofs.Begins.{IsToldMove, begun_of}
 use Rattle.ltx_laws.proofs.PrintedCommits.{begun_once, slotted_printed}
 
 -- places among transactions

@@ -1,7 +1,6 @@
 -- The numbers of commits along a chain of versions: they rise, and the mark of a slot divides them.
-use Rattle.std.proofs.Common.{◌≡◌, ◌≢◌, ◌⊎◌, inl, inr, ℕ, suc, ◌+◌, ◌<◌, ◌≤◌, Bool, true, false, cond, ◌&&◌, not, ◌==◌, nat_lt, List, [], ◌∷◌, ◌++◌, length, Option, Some, None, refl, sym, ap, ◌∙◌, subst, append_assoc, append-nil, arith, Contains, IsPermutation}
-use Rattle.std.proofs.lemmas.Bool.{both_ways, eq-eqb, eqb-true, ne_eqb}
-use Rattle.std.proofs.lemmas.List.{length-append}
+use Rattle.std.proofs.Common.{◌≡◌, ◌≢◌, ◌⊎◌, inl, inr, ℕ, ◌+◌, ◌<◌, ◌≤◌, Bool, true, false, cond, ◌&&◌, not, ◌==◌, nat_lt, List, [], ◌∷◌, ◌++◌, length, Option, Some, None, refl, sym, ap, ◌∙◌, subst, append_assoc, arith, Contains}
+use Rattle.std.proofs.lemmas.Bool.{ne_eqb}
 use Rattle.std.specs.List.{cons_option, AllByRecursion}
 use Rattle.ltx_model.specs.declared.commands.Line.{Line}
 use Rattle.ltx_model.specs.declared.replies.Entry.{Entry}
@@ -9,13 +8,13 @@ use Rattle.ltx_model.specs.Lists.{IsPairwise}
 use Rattle.ltx_model.specs.Keys.{Cell}
 use Rattle.ltx_model.specs.Operations.{Transaction, operations, writes_key}
 use Rattle.ltx_model.specs.Agenda.{Member, agenda_after, agenda_from, Move, CommitShort, CommitHome, CommitBefore, Leave, Timed, commit_of, commits_of, moves_since, moves_until}
-use Rattle.ltx_model.specs.Marks.{mark_of_slot, place_in, number_of_commit}
-use Rattle.ltx_model.specs.Versions.{has_later, install, install_if, chain_from, chain_of}
+use Rattle.ltx_model.specs.Marks.{place_in, number_of_commit}
+use Rattle.ltx_model.specs.Versions.{has_later, install_if, chain_from, chain_of}
 use Rattle.ltx_model.specs.States.{Kind, IsShort, IsPending, IsLive, Active, transaction_of, Base, IsSound, State, first_state, is_of, active_of, LiveBatch, live_batches}
-use Rattle.ltx_model.specs.Histories.{closed, moved, left, in_epoch, advanced, durable_if, after, state, state_from}
+use Rattle.ltx_model.specs.Histories.{closed, left, in_epoch, durable_if, after, state, state_from}
 use Rattle.ltx_model.specs.Answers.{IsLegalFrom, IsLegalWith}
-use Rattle.ltx_lemmas.proofs.Lists.{some_same, none_some, all_contains, all_from, all_push, any_contains, any_item, any_not_all, contains_back, contains_cases, contains_front, contains_here, contains_later, contains_none, contains_parts, find_contains, given_item}
-use Rattle.ltx_laws.specs.Orders.{IsPrefix, IsSublist}
+use Rattle.ltx_lemmas.proofs.Lists.{some_same, all_contains, all_from, contains_back, contains_cases, contains_front, contains_here, contains_later, contains_none, contains_parts, find_contains, given_item}
+use Rattle.ltx_laws.specs.Orders.{IsSublist}
 use Rattle.ltx_laws.specs.Structure.{Structure}
 use Rattle.ltx_laws.proofs.Pairs.{pairs_push}
 use Rattle.ltx_laws.proofs.Standing.{commits_push, commits_none}
@@ -23,7 +22,7 @@ use Rattle.ltx_laws.proofs.Transitions.{Cases, entry_case}
 use Rattle.ltx_laws.proofs.Structures.{first_structure, structure_after}
 use Rattle.ltx_laws.proofs.SlotsKept.{none_open}
 use Rattle.ltx_laws.proofs.Told.{slots_commits}
-use Rattle.ltx_laws.proofs.SlotMarks.{IsPlaceUpTo, place_front, place_behind, IsSlotBetween, between, commits_parts, mark_is}
+use Rattle.ltx_laws.proofs.SlotMarks.{IsPlaceUpTo, place_front, place_behind, IsSlotBetween, between, commits_parts}
 use Rattle.ltx_laws.proofs.VersionChains.{chain_split}
 use Rattle.ltx_laws.proofs.VersionRows.{installed_in_time}
 

@@ -1,11 +1,10 @@
 -- The bounds of each state that a legal history leads to: a number, an epoch or an operation more is given only below its bound.
-use Rattle.std.proofs.Common.{◌≡◌, ◌≢◌, ℕ, ◌+◌, ◌<◌, ◌≤◌, Bool, true, false, ◌==◌, nat_lt, nat_le, List, [], ◌∷◌, ◌++◌, map, length, Option, Some, None, refl, sym, ap, ◌∙◌, subst, arith, if◌then◌else◌, Contains, IsPermutation}
+use Rattle.std.proofs.Common.{◌≡◌, ◌≢◌, ℕ, ◌+◌, ◌<◌, ◌≤◌, Bool, true, false, ◌==◌, nat_lt, List, [], ◌∷◌, length, Some, None, refl, sym, ap, ◌∙◌, subst, arith, if◌then◌else◌, Contains}
 use Rattle.std.proofs.lemmas.Bool.{eq-eqb, leb-false, ltb-true, ltb-false}
 use Rattle.std.proofs.lemmas.List.{length-map, length-append}
 use Rattle.std.proofs.lemmas.List.Sorted.{Contains-permutation, IsPermutation-sym}
 use Rattle.std.specs.List.{AllByRecursion}
 use Rattle.ltx_model.specs.declared.commands.Op.{Op}
-use Rattle.ltx_model.specs.declared.commands.Verb.{Verb}
 use Rattle.ltx_model.specs.declared.commands.Verb.TheVariants as verbs
 use Rattle.ltx_model.specs.declared.commands.Command.TheVariants as commands
 use Rattle.ltx_model.specs.declared.commands.Line.{Line}
@@ -14,17 +13,17 @@ use Rattle.ltx_model.specs.declared.replies.Entry.{Entry}
 use Rattle.ltx_model.specs.declared.replies.Reply.{Reply}
 use Rattle.ltx_model.specs.declared.replies.Reply.TheVariants as replies
 use Rattle.ltx_model.specs.declared.rows.StoredRow.{StoredRow}
-use Rattle.ltx_model.specs.Lists.{change_first, without_first}
-use Rattle.ltx_model.specs.Operations.{Transaction, operations, table_of}
+use Rattle.ltx_model.specs.Lists.{without_first}
+use Rattle.ltx_model.specs.Operations.{Transaction, table_of}
 use Rattle.ltx_model.specs.Rows.{run}
-use Rattle.ltx_model.specs.Agenda.{serial, Move, CommitShort, CommitHome, CommitBefore, Leave, Timed, commit_of, commits_of}
+use Rattle.ltx_model.specs.Agenda.{serial, Move, CommitShort, CommitHome, CommitBefore, Leave, commit_of, commits_of}
 use Rattle.ltx_model.specs.States.{Declaration, Kind, IsShort, IsPending, IsLive, Step, Active, answered_of, transaction_of, Base, IsSound, State, first_state, is_of, active_of, latest}
 use Rattle.ltx_model.specs.Histories.{with_step, begun, answered, closed, moved, left, made_live, with_kind, in_epoch, advanced, durable_if, after, state, state_from}
 use Rattle.ltx_model.specs.Shorts.{holder}
 use Rattle.ltx_model.specs.Answers.{answer, staged, IsLegalFrom, IsLegalWith, begin_short, short_reply, begin_long, long_reply, operation, operation_in, operation_of_short, operation_of_batch, refusal, counted, is_full, advance}
 use Rattle.ltx_model.specs.Limits.{last_number, last_epoch, most_operations}
-use Rattle.ltx_model.specs.Explained.{effect_of, Answers, Leaves}
-use Rattle.ltx_lemmas.proofs.Lists.{some_same, all_map, all_push, all_without, all_change, all_contains, all_find, all_mapped}
+use Rattle.ltx_model.specs.Explained.{effect_of, Answers}
+use Rattle.ltx_lemmas.proofs.Lists.{some_same, all_push, all_without, all_change, all_contains, all_find, all_mapped}
 use Rattle.ltx_laws.proofs.Transitions.{Cases, asks, entry_case}
 use Rattle.ltx_laws.proofs.Standing.{commits_push, commits_none}
 use Rattle.ltx_laws.proofs.StructureSlots.{slots_active}

@@ -1,6 +1,6 @@
 use Rattle.std.proofs.Common.{◌≡◌, ℕ, ◌≤◌, length, nat_lt, Some, sym, ap, ◌∙◌, subst, Contains}
 use Rattle.ltx_model.specs.Operations.{Transaction}
-use Rattle.ltx_model.specs.Agenda.{commits_after, commits_of, moves_until, serial}
+use Rattle.ltx_model.specs.Agenda.{commits_of, moves_until}
 use Rattle.ltx_model.specs.Marks.{number_of_commit}
 use Rattle.ltx_model.specs.Histories.{state}
 use Rattle.ltx_lemmas.proofs.Lists.{some_same}

@@ -1,4 +1,3 @@
-use Rattle.ltx_model.specs.States.{State}
 use Rattle.ltx_model.specs.Histories.{state}
 use Rattle.ltx_laws.proofs.LiveStates.{IsOpenBatch, open_batch}
 use Rattle.ltx_laws.proofs.SlotMarks.{live_by_moves, live_from_moves}

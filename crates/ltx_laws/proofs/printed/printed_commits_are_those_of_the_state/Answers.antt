@@ -1,5 +1,4 @@
 use Rattle.ltx_laws.proofs.PrintedCommits.{IsCommitter, commit_printed, committer_is, committer_prints, begun_short_is, begun_batch_is}
-use Rattle.ltx_model.specs.States.{State}
 use Rattle.ltx_model.specs.Histories.{state}
 use Rattle.ltx_laws.proofs.printed.printed_commits_are_those_of_the_state.Goals as goal
 
