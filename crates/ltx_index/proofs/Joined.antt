@@ -10,7 +10,7 @@ use Rattle.std.proofs.lemmas.Bool.{cases_Bool}
 use Rattle.std.proofs.lemmas.Cmp.{nat_list_cmp_total}
 use Rattle.std.proofs.lemmas.Option.{none-some}
 use Rattle.ltx_model.specs.Keys.{key_cmp}
-use Rattle.ltx_index.specs.Pairs.{IsInOrder, value_at, with_pair, with_value, without_key, first_from, reaches}
+use Rattle.ltx_index.specs.Pairs.{IsInOrder, value_at, with_pair, with_value, without_key}
 use Rattle.ltx_index.specs.Places.{AreBelow, AreAbove}
 use Rattle.ltx_index.proofs.Places.{below_from_above}
 
@@ -97,25 +97,6 @@ module _ {V : Type 0} (key : List ℕ) (ys : List (List ℕ × V)) (above : AreA
   pub with_pair-above : (value : V) (xs : List (List ℕ × V)) → with_pair (xs ++ ys) key value ≡ with_pair xs key value ++ ys
   with_pair-above value [] = with_pair-before key value ys above
   with_pair-above value ((k, x) ∷ xs) = rw (with_pair-above value xs) (put_step value k x xs (with_pair xs key value) (key_cmp key k))
-
--- ---- the first pair from a bound on
-
-module _ {V : Type 0} (from : List ℕ) (strict : Bool) (ys : List (List ℕ × V)) where
-  -- is the second list's where all of the first fall short
-  pub first_from-short : (xs : List (List ℕ × V)) → first_from xs from strict ≡ None → first_from (xs ++ ys) from strict ≡ first_from ys from strict
-  first_from-short [] none = refl
-  first_from-short ((k, x) ∷ xs) none = elim (cases_Bool (reaches from strict k)) [
-    | inl at ↦ absurd (none-some (k, x) (sym (rw at at none)))
-    | inr short ↦ rw short (first_from-short xs (rw short at none))
-  ]
-
-  -- and the first list's where it has one
-  pub first_from-reached : (xs : List (List ℕ × V)) (pair : List ℕ × V) → first_from xs from strict ≡ Some pair → first_from (xs ++ ys) from strict ≡ Some pair
-  first_from-reached [] pair first = absurd (none-some pair first)
-  first_from-reached ((k, x) ∷ xs) pair first = elim (cases_Bool (reaches from strict k)) [
-    | inl at ↦ rw at (rw at at first)
-    | inr short ↦ rw short (first_from-reached xs pair (rw short at first))
-  ]
 
 -- ---- order
 

@@ -18,7 +18,7 @@ use Rattle.std.proofs.lemmas.List.Sorted.{searchable_from_sorted}
 use Rattle.std.proofs.lemmas.Map.Keys.{Less-from_sorted}
 use Rattle.std.proofs.lemmas.Map.Lookups.{exact_bytes}
 use Rattle.ltx_model.specs.Keys.{key_cmp}
-use Rattle.ltx_index.specs.Pairs.{IsInOrder, value_at, with_pair, with_value, without_key, first_from, reaches}
+use Rattle.ltx_index.specs.Pairs.{IsInOrder, value_at, with_pair, with_value, without_key, pairs_from, reaches}
 use Rattle.ltx_index.specs.Places.{IsRun, AreAbove, IsFoundAt, IsGapAt, IsStartAt}
 
 -- keys are tied where they are the same
@@ -239,16 +239,8 @@ module _ (ks : List (List ℕ)) (sorted : IsStrictlySortedBy key_cmp ks) where
     ];
   }
 
--- ---- the first pair from a bound on
-
 start_tail : (from : List ℕ) (strict : Bool) (k : List ℕ) (ks : List (List ℕ)) (i : ℕ) → IsStartAt (k ∷ ks) from strict (suc i) → IsStartAt ks from strict i
 start_tail from strict k ks i s = record { in_range = omega (arith, s.in_range); short = s.short.1; first = s.first }
-
-pub first_from-start : {V : Type 0} (ks : List (List ℕ)) (vs : List V) (from : List ℕ) (strict : Bool) (i : ℕ) → length ks ≡ length vs → IsStartAt ks from strict i → first_from (zip ks vs) from strict ≡ slice_get (zip ks vs) i
-first_from-start [] vs from strict i same s = refl
-first_from-start (k ∷ ks) [] from strict i same s = refl
-first_from-start (k ∷ ks) (v ∷ vs) from strict zero same s = rw s.first refl
-first_from-start (k ∷ ks) (v ∷ vs) from strict (suc i) same s = rw s.short.0 (first_from-start ks vs from strict i (omega (arith, same)) (start_tail from strict k ks i s))
 
 -- ---- what a read lends
 
@@ -256,19 +248,6 @@ first_from-start (k ∷ ks) (v ∷ vs) from strict (suc i) same s = rw s.short.0
 pub lent_item : {R X : Type 0} (now : R → X) (xs : List X) (i : ℕ) (r : Option R) → ItemBy now xs i i r → option_map now r ≡ slice_get xs i
 lent_item now xs i None item = sym (slice_get_past xs i item.3)
 lent_item now xs i (Some x) item = ap Some (item.3.1 (now x)) ∙ sym (slice_get-get_or xs i (now x) item.3.0)
-
--- the pair at a place of a run
-pub slice_get_pair : {V : Type 0} (ks : List (List ℕ)) (vs : List V) (i : ℕ) (k : List ℕ) (v : V) → slice_get ks i ≡ Some k → slice_get vs i ≡ Some v → slice_get (zip ks vs) i ≡ Some (k, v)
-slice_get_pair [] vs i k v key value = absurd (none-some k key)
-slice_get_pair (a ∷ ks) [] i k v key value = absurd (none-some v value)
-slice_get_pair (a ∷ ks) (b ∷ vs) zero k v key value = rw (same_Some _ _ key, same_Some _ _ value) refl
-slice_get_pair (a ∷ ks) (b ∷ vs) (suc i) k v key value = slice_get_pair ks vs i k v key value
-
-pub no_pair : {V : Type 0} (ks : List (List ℕ)) (vs : List V) (i : ℕ) → slice_get ks i ≡ None → slice_get (zip ks vs) i ≡ None
-no_pair [] vs i past = refl
-no_pair (a ∷ ks) [] i past = refl
-no_pair (a ∷ ks) (b ∷ vs) zero past = absurd (none-some a (sym past))
-no_pair (a ∷ ks) (b ∷ vs) (suc i) past = no_pair ks vs i past
 
 -- the same with a default
 pub read_some : {R X : Type 0} (now : R → X) (xs : List X) (i : ℕ) (d : X) (r : Option R) (x : R) → ItemBy now xs i i r → r ≡ Some x → get_or xs i d ≡ now x
@@ -331,18 +310,6 @@ module _ {V : Type 0} (ks : List (List ℕ)) (vs : List V) (run : IsRun ks vs) w
   pub length_run : length (zip ks vs) ≡ length ks
   length_run = omega (arith, length-zip ks vs, run.as_many)
 
-  module _ (from : List ℕ) (strict : Bool) where
-    -- reads of both vectors at the place where the keys begin that reach the bound give the first pair
-    pub first_from-lent : {R S : Type 0} (key : R → List ℕ) (value : S → V) (i : ℕ) → IsStartAt ks from strict i → (r : Option R) → ItemBy key ks i i r → (s : Option S) → ItemBy value vs i i s → (x : R) (y : S) → r ≡ Some x → s ≡ Some y → first_from (zip ks vs) from strict ≡ Some (key x, value y)
-    first_from-lent key value i start r at_key s at_value x y is_key is_value =
-        first_from-start ks vs from strict i run.as_many start
-        ∙ slice_get_pair ks vs i (key x) (value y) (sym (lent_item key ks i r at_key) ∙ ap (option_map key) is_key) (sym (lent_item value vs i s at_value) ∙ ap (option_map value) is_value)
-
-    pub none_from-lent : {R : Type 0} (key : R → List ℕ) (i : ℕ) → IsStartAt ks from strict i → (r : Option R) → ItemBy key ks i i r → r ≡ None → first_from (zip ks vs) from strict ≡ None
-    none_from-lent key i start r at_key none =
-        first_from-start ks vs from strict i run.as_many start
-        ∙ no_pair ks vs i (sym (lent_item key ks i r at_key) ∙ ap (option_map key) none)
-
 zip-nothing : {V : Type 0} (ks : List (List ℕ)) → zip {X = V} ks [] ≡ []
 zip-nothing [] = refl
 zip-nothing (k ∷ ks) = refl
@@ -353,3 +320,25 @@ zip-halves zero ks vs = refl
 zip-halves (suc n) [] vs = refl
 zip-halves (suc n) (k ∷ ks) [] = sym (zip-nothing (drop n ks))
 zip-halves (suc n) (k ∷ ks) (v ∷ vs) = ap (λ pairs. (k, v) ∷ pairs) (zip-halves n ks vs)
+
+-- ---- the pairs from a bound on
+
+reach_past : (from : List ℕ) (strict : Bool) (k : List ℕ) (ks : List (List ℕ)) → reaches from strict k ≡ true → AllByRecursion (λ l. key_cmp k l ≡ Less) ks → AllByRecursion (λ l. reaches from strict l ≡ true) ks
+reach_past from strict k [] at above = tt
+reach_past from strict k (l ∷ ks) at above = (reaches_past from strict k l above.0 at, reach_past from strict k ks at above.1)
+
+module _ {V : Type 0} (from : List ℕ) (strict : Bool) where
+  -- keys that all reach the bound keep their pairs
+  pub all_from : (ks : List (List ℕ)) (vs : List V) → AllByRecursion (λ k. reaches from strict k ≡ true) ks → pairs_from (zip ks vs) from strict ≡ zip ks vs
+  all_from [] vs all = refl
+  all_from (k ∷ ks) [] all = refl
+  all_from (k ∷ ks) (v ∷ vs) all = rw all.0 (ap (λ pairs. (k, v) ∷ pairs) (all_from ks vs all.1))
+
+  -- from the place on where the keys begin that reach the bound
+  pub pairs_from-start : (ks : List (List ℕ)) (vs : List V) (i : ℕ) → length ks ≡ length vs → IsStrictlySortedBy key_cmp ks → IsStartAt ks from strict i → zip (drop i ks) (drop i vs) ≡ pairs_from (zip ks vs) from strict
+  unfolding IsStrictlySortedBy
+  pairs_from-start [] vs zero same sorted s = refl
+  pairs_from-start [] vs (suc i) same sorted s = refl
+  pairs_from-start (k ∷ ks) [] i same sorted s = absurd (omega (arith, same))
+  pairs_from-start (k ∷ ks) (v ∷ vs) zero same sorted s = rw s.first (ap (λ pairs. (k, v) ∷ pairs) (sym (all_from ks vs (reach_past from strict k ks s.first sorted.0))))
+  pairs_from-start (k ∷ ks) (v ∷ vs) (suc i) same sorted s = rw s.short.0 (pairs_from-start ks vs i (omega (arith, same)) sorted.1 (start_tail from strict k ks i s))

@@ -1,5 +1,5 @@
 -- An ordered map as its list of pairs of a key and a value, in rising order of the keys.
-use Rattle.std.specs.Prelude.{ℕ, Bool, Option, List, if◌then◌else◌}
+use Rattle.std.specs.Prelude.{ℕ, Bool, Option, List, filter, if◌then◌else◌}
 use Rattle.std.specs.List.{find}
 use Rattle.std.specs.List.Sorted.{IsStrictlySortedBy}
 use Rattle.std.specs.Map.{keys_of, lookup, remove_entry, set_value}
@@ -34,3 +34,7 @@ reaches from strict key = if strict then is_lt (key_cmp from key) else is_le (ke
 -- the pair with the least key that reaches the bound: the keys rise, so it is the first one
 abbrev pub first_from : {V : Type 0} → List (List ℕ × V) → List ℕ → Bool → Option (List ℕ × V)
 first_from pairs from strict = find (λ pair. reaches from strict pair.0) pairs
+
+-- the pairs whose keys reach the bound: the last ones, since the keys rise
+abbrev pub pairs_from : {V : Type 0} → List (List ℕ × V) → List ℕ → Bool → List (List ℕ × V)
+pairs_from pairs from strict = filter (λ pair. reaches from strict pair.0) pairs
