@@ -15,8 +15,8 @@ use Rattle.ltx_model.specs.declared.writes.Look.{Look}
 use Rattle.ltx_model.specs.Keys.{key_cmp, is_empty, in_range}
 use Rattle.ltx_index.specs.Pairs.{IsInOrder, pairs_from}
 use Rattle.ltx_index.proofs.Lookups.{in_order-pairs_from}
-use Rattle.ltx_chain.specs.Versions.{Versions}
-use Rattle.ltx_store.specs.Scans.{between, rows_seen, looks_seen}
+use Rattle.ltx_chain.specs.Versions.{Versions, visible}
+use Rattle.ltx_store.specs.Scans.{between, row_of_seen, look_of_version, rows_seen, looks_seen}
 use Rattle.ltx_store.specs.Walks.{under, IsScanned}
 
 abbrev Pairs : Type 0
@@ -80,9 +80,9 @@ module _ (low high : List ℕ) (mark : ℕ) (table : Pairs) where
     scan_more more_rows more_looks below rows_is looks_is = record {
       order = in_order_rest high p rest s.order;
       rows_are = ap (λ l. l ++ rows_seen mark (under high rest)) rows_is ∙ append_assoc rows (rows_seen mark (p ∷ [])) (rows_seen mark (under high rest))
-          ∙ ap (λ l. rows ++ l) (sym (filter_map-append _ (p ∷ []) (under high rest)) ∙ ap (rows_seen mark) (sym (one_under high p rest below))) ∙ s.rows_are;
+          ∙ ap (λ l. rows ++ l) (sym (filter_map-append (λ (q : List ℕ × Versions). row_of_seen q.0 (visible mark q.1.items)) (p ∷ []) (under high rest)) ∙ ap (rows_seen mark) (sym (one_under high p rest below))) ∙ s.rows_are;
       looks_are = ap (λ l. l ++ looks_seen mark (under high rest)) looks_is ∙ append_assoc looks (looks_seen mark (p ∷ [])) (looks_seen mark (under high rest))
-          ∙ ap (λ l. looks ++ l) (sym (filter_map-append _ (p ∷ []) (under high rest)) ∙ ap (looks_seen mark) (sym (one_under high p rest below))) ∙ s.looks_are;
+          ∙ ap (λ l. looks ++ l) (sym (filter_map-append (λ (q : List ℕ × Versions). look_of_version q.0 (visible mark q.1.items)) (p ∷ []) (under high rest)) ∙ ap (looks_seen mark) (sym (one_under high p rest below))) ∙ s.looks_are;
     }
 
     -- the whole range, where the walk has left it
