@@ -12,7 +12,7 @@ use Rattle.std.proofs.lemmas.Option.{none-some}
 use Rattle.ltx_model.specs.Keys.{key_cmp}
 use Rattle.ltx_index.specs.Pairs.{IsInOrder, value_at, with_pair, with_value, without_key}
 use Rattle.ltx_index.specs.Places.{AreBelow, AreAbove}
-use Rattle.ltx_index.proofs.Places.{below_from_above}
+use Rattle.ltx_model.proofs.KeyOrder.{key_turned}
 
 -- ---- what holds of all keys
 
@@ -132,7 +132,7 @@ module _ {V : Type 0} (key : List ℕ) where
   unfolding IsStrictlySortedBy
   put_in_order value k x rest put sorted put_sorted above Less o = ((o, all_implied (λ y. key_cmp k y ≡ Less) (λ y. key_cmp key y ≡ Less) (λ y later. nat_list_cmp_total.trans key k y o later) (keys_of rest) sorted.0), sorted)
   put_in_order value k x rest put sorted put_sorted above Equal o = sorted
-  put_in_order value k x rest put sorted put_sorted above Greater o = (above (below_from_above key k o), put_sorted)
+  put_in_order value k x rest put sorted put_sorted above Greater o = (above (key_turned key k Greater o), put_sorted)
 
   filled_step : (value : V) (k : List ℕ) (x : V) (rest put : List (List ℕ × V)) (o : Ordering) → 0 < length (match_ordering o ((key, value) ∷ (k, x) ∷ rest) ((k, value) ∷ rest) ((k, x) ∷ put))
   filled_step value k x rest put Less = omega arith

@@ -13,10 +13,13 @@ use Rattle.std.proofs.lemmas.List.{append_assoc, map-append, length-take, length
 use Rattle.std.proofs.lemmas.List.Elements.{recursion_from_All, filter-append}
 use Rattle.std.proofs.lemmas.Map.Keys.{sorted_head}
 use Rattle.ltx_model.specs.Keys.{key_cmp}
-use Rattle.ltx_index.specs.Pairs.{IsInOrder, value_at, with_pair, with_value, without_key, first_from, pairs_from, reaches}
+use Rattle.ltx_index.specs.Pairs.{IsInOrder, value_at, with_pair, with_value, without_key, first_from, pairs_from}
+use Rattle.ltx_model.specs.NextKeys.{reaches}
 use Rattle.ltx_index.specs.Places.{AreBelow, AreAbove}
 use Rattle.ltx_index.specs.Leaves.{pairs_of, AreLeaves, first_key, IsHome}
-use Rattle.ltx_index.proofs.Places.{below_from_above, above_from_below, reaches_past, is_less}
+use Rattle.ltx_model.proofs.KeyOrder.{key_turned}
+use Rattle.ltx_model.proofs.KeyOrder.{reaches_past}
+use Rattle.ltx_model.proofs.Orderings.{is_less}
 use Rattle.ltx_index.proofs.Joined.{filled-with_pair, all_append, all_right, all_implied, value_at-below, with_pair-below, with_value-below, without_key-below, value_at-above, with_pair-above, with_value-above, without_key-above, AreParted, parted, in_order-with_pair, in_order-without_key}
 use Rattle.ltx_index.proofs.Lookups.{in_order-with_value, length-with_value}
 
@@ -77,8 +80,8 @@ below_short from strict k f below short = by_order (key_cmp from f) refl
         reached : (strict : Bool) → key_cmp from f ≡ Less → reaches from strict f ≡ true
         reached true o = ap is_lt o
         reached false o = ap is_le o
-    by_order Equal o = nat_list_cmp_total.congr from f k o ∙ above_from_below k f below
-    by_order Greater o = above_from_below k from (nat_list_cmp_total.trans k f from below (below_from_above from f o))
+    by_order Equal o = nat_list_cmp_total.congr from f k o ∙ key_turned k f Less below
+    by_order Greater o = key_turned k from Less (nat_list_cmp_total.trans k f from below (key_turned from f Greater o))
 
 module _ {V : Type 0} (from : List ℕ) (strict : Bool) where
   -- a leaf whose first key reaches the bound reaches it as a whole

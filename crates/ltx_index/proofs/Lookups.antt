@@ -15,8 +15,9 @@ use Rattle.std.proofs.lemmas.Map.Lookups.{exact_bytes}
 use Rattle.std.proofs.lemmas.Map.Views.{tells_apart}
 use Rattle.std.proofs.lemmas.Option.{none-some, some_pair_parts}
 use Rattle.ltx_model.specs.Keys.{key_cmp}
-use Rattle.ltx_index.specs.Pairs.{IsInOrder, value_at, with_pair, with_value, without_key, first_from, pairs_from, reaches}
-use Rattle.ltx_index.proofs.Places.{same_key}
+use Rattle.ltx_index.specs.Pairs.{IsInOrder, value_at, with_pair, with_value, without_key, first_from, pairs_from}
+use Rattle.ltx_model.specs.NextKeys.{reaches}
+use Rattle.ltx_model.proofs.KeyOrder.{same_keys}
 
 -- whether two keys are the same
 abbrev pub are_same : List ℕ → List ℕ → Bool
@@ -35,7 +36,7 @@ module _ {V : Type 0} (key : List ℕ) (value : V) (q : List ℕ) where
   -- the first pair's key stands before the new one's place, at it or after it
   put_step : (k : List ℕ) (x : V) (rest put : List (List ℕ × V)) → value_at put q ≡ (if are_same key q then Some value else value_at rest q) → (o : Ordering) → key_cmp key k ≡ o → value_at (match_ordering o ((key, value) ∷ (k, x) ∷ rest) ((k, value) ∷ rest) ((k, x) ∷ put)) q ≡ (if are_same key q then Some value else value_at ((k, x) ∷ rest) q)
   put_step k x rest put in_rest Less o = rw (are_same-flip key q) refl
-  put_step k x rest put in_rest Equal o = rw (same_key key k o, are_same-flip k q) (elim (cases_Bool (are_same q k)) [
+  put_step k x rest put in_rest Equal o = rw (same_keys key k o, are_same-flip k q) (elim (cases_Bool (are_same q k)) [
     | inl same ↦ rw same refl
     | inr differ ↦ rw differ refl
   ])

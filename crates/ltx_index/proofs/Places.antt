@@ -6,7 +6,7 @@ use Rattle.std.specs.List.Sorted.{IsStrictlySortedBy, IsSortedBy, IsSearchInRang
 use Rattle.std.specs.Ordering.{ordering_reverse, is_lt, is_le}
 use Rattle.std.specs.declared.cmp.Ordering.{Ordering}
 use Rattle.std.specs.declared.cmp.Ordering.TheVariants.{Less, Equal, Greater}
-use Rattle.std.proofs.lemmas.Cmp.{nat_list_cmp_total, tied_itself}
+use Rattle.std.proofs.lemmas.Cmp.{nat_list_cmp_total}
 use Rattle.std.proofs.lemmas.Option.{none-some, same_Some, slice_get-get_or, slice_get_cases, slice_get_past}
 use Rattle.std.proofs.lemmas.Map.Made.{keys_of-zip}
 use Rattle.std.proofs.lemmas.Slice.Zip.{length-zip}
@@ -16,27 +16,13 @@ use Rattle.std.proofs.lemmas.List.Edits.{length-insert, length-remove}
 use Rattle.std.proofs.lemmas.List.Elements.{recursion_from_All}
 use Rattle.std.proofs.lemmas.List.Sorted.{searchable_from_sorted}
 use Rattle.std.proofs.lemmas.Map.Keys.{Less-from_sorted}
-use Rattle.std.proofs.lemmas.Map.Lookups.{exact_bytes}
 use Rattle.ltx_model.specs.Keys.{key_cmp}
-use Rattle.ltx_index.specs.Pairs.{IsInOrder, value_at, with_pair, with_value, without_key, pairs_from, reaches}
+use Rattle.ltx_model.proofs.KeyOrder.{key_turned, key_itself, same_keys, reaches_past}
+use Rattle.ltx_index.specs.Pairs.{IsInOrder, value_at, with_pair, with_value, without_key, pairs_from}
+use Rattle.ltx_model.specs.NextKeys.{reaches}
 use Rattle.ltx_index.specs.Places.{IsRun, AreAbove, IsFoundAt, IsGapAt, IsStartAt}
 
--- keys are tied where they are the same
-pub same_key : (a b : List ℕ) → key_cmp a b ≡ Equal → a ≡ b
-same_key a b tied = exact_bytes a b tied
-
--- the order the other way round
-pub below_from_above : (a b : List ℕ) → key_cmp a b ≡ Greater → key_cmp b a ≡ Less
-below_from_above a b above = nat_list_cmp_total.antisymm b a ∙ ap ordering_reverse above
-
-pub above_from_below : (a b : List ℕ) → key_cmp a b ≡ Less → key_cmp b a ≡ Greater
-above_from_below a b below = nat_list_cmp_total.antisymm b a ∙ ap ordering_reverse below
-
 module _ (key : List ℕ) where
-  -- a key is at itself
-  itself : key_cmp key key ≡ Equal
-  itself = tied_itself nat_list_cmp_total key
-
   found_tail : (k : List ℕ) (ks : List (List ℕ)) (i : ℕ) → IsFoundAt (k ∷ ks) key (suc i) → IsFoundAt ks key i
   found_tail k ks i f = record { in_range = omega (arith, f.in_range); below = f.below.1; here = f.here }
 
@@ -49,25 +35,25 @@ module _ {V : Type 0} (key : List ℕ) where
   pub value_at-found : (ks : List (List ℕ)) (vs : List V) (i : ℕ) (v : V) → IsFoundAt ks key i → slice_get vs i ≡ Some v → value_at (zip ks vs) key ≡ Some v
   value_at-found [] vs i v f at = absurd (omega (arith, f.in_range))
   value_at-found (k ∷ ks) [] i v f at = absurd (none-some v at)
-  value_at-found (k ∷ ks) (x ∷ xs) zero v f at = rw (same_Some _ _ f.here, itself key) at
+  value_at-found (k ∷ ks) (x ∷ xs) zero v f at = rw (same_Some _ _ f.here, key_itself key) at
   value_at-found (k ∷ ks) (x ∷ xs) (suc i) v f at = rw f.below.0 (value_at-found ks xs i v (found_tail key k ks i f) at)
 
   pub with_value-found : (ks : List (List ℕ)) (vs : List V) (i : ℕ) (w : V) → IsFoundAt ks key i → with_value (zip ks vs) key w ≡ zip ks (slice_set vs i w)
   with_value-found [] vs i w f = refl
   with_value-found (k ∷ ks) [] i w f = refl
-  with_value-found (k ∷ ks) (x ∷ xs) zero w f = rw (same_Some _ _ f.here, itself key) refl
+  with_value-found (k ∷ ks) (x ∷ xs) zero w f = rw (same_Some _ _ f.here, key_itself key) refl
   with_value-found (k ∷ ks) (x ∷ xs) (suc i) w f = rw (f.below.0, with_value-found ks xs i w (found_tail key k ks i f)) refl
 
   pub with_pair-found : (ks : List (List ℕ)) (vs : List V) (i : ℕ) (w : V) → length ks ≡ length vs → IsFoundAt ks key i → with_pair (zip ks vs) key w ≡ zip ks (slice_set vs i w)
   with_pair-found [] vs i w same f = absurd (omega (arith, f.in_range))
   with_pair-found (k ∷ ks) [] i w same f = absurd (omega (arith, same))
-  with_pair-found (k ∷ ks) (x ∷ xs) zero w same f = rw (same_Some _ _ f.here, itself key) refl
+  with_pair-found (k ∷ ks) (x ∷ xs) zero w same f = rw (same_Some _ _ f.here, key_itself key) refl
   with_pair-found (k ∷ ks) (x ∷ xs) (suc i) w same f = rw (f.below.0, with_pair-found ks xs i w (omega (arith, same)) (found_tail key k ks i f)) refl
 
   pub without_key-found : (ks : List (List ℕ)) (vs : List V) (i : ℕ) → length ks ≡ length vs → IsFoundAt ks key i → without_key (zip ks vs) key ≡ zip (remove ks i) (remove vs i)
   without_key-found [] vs i same f = absurd (omega (arith, f.in_range))
   without_key-found (k ∷ ks) [] i same f = absurd (omega (arith, same))
-  without_key-found (k ∷ ks) (x ∷ xs) zero same f = rw (same_Some _ _ f.here, itself key) refl
+  without_key-found (k ∷ ks) (x ∷ xs) zero same f = rw (same_Some _ _ f.here, key_itself key) refl
   without_key-found (k ∷ ks) (x ∷ xs) (suc i) same f = rw (f.below.0, without_key-found ks xs i (omega (arith, same)) (found_tail key k ks i f)) refl
 
   -- ---- where it does not stand
@@ -122,7 +108,7 @@ pub in_order-insert : (ks : List (List ℕ)) (i : ℕ) (key : List ℕ) → IsSt
 unfolding IsStrictlySortedBy
 in_order-insert ks zero key s gap = (gap.above, s)
 in_order-insert [] (suc i) key s gap = (tt, tt)
-in_order-insert (k ∷ ks) (suc i) key s gap = (all_insert _ ks i key s.0 (below_from_above key k gap.below.0), in_order-insert ks i key s.1 (gap_tail key k ks i gap))
+in_order-insert (k ∷ ks) (suc i) key s gap = (all_insert _ ks i key s.0 (key_turned key k Greater gap.below.0), in_order-insert ks i key s.1 (gap_tail key k ks i gap))
 
 -- one pair alone is a run
 pub pair_run : {V : Type 0} (key : List ℕ) (value : V) → IsRun (key ∷ []) (value ∷ [])
@@ -153,36 +139,12 @@ in_order-drop zero ks s = s
 in_order-drop (suc n) [] s = tt
 in_order-drop (suc n) (k ∷ ks) s = in_order-drop n ks s.1
 
--- ---- what reaches a bound
-
-pub is_less : (o : Ordering) → is_lt o ≡ true → o ≡ Less
-is_less Less at = refl
-is_less Equal at = absurd (false≢true at)
-is_less Greater at = absurd (false≢true at)
-
-is_less_or_equal : (o : Ordering) → is_le o ≡ true → (o ≡ Less) ⊎ (o ≡ Equal)
-is_less_or_equal Less at = inl refl
-is_less_or_equal Equal at = inr refl
-is_less_or_equal Greater at = absurd (false≢true at)
-
--- what stands above a key that reaches the bound is above the bound
-pub above_past : (from k l : List ℕ) → key_cmp k l ≡ Less → is_le (key_cmp from k) ≡ true → key_cmp from l ≡ Less
-above_past from k l past at = elim (is_less_or_equal (key_cmp from k) at) [
-  | inl below ↦ nat_list_cmp_total.trans from k l below past
-  | inr tied ↦ nat_list_cmp_total.congr from k l tied ∙ past
-]
-
--- what stands above a key that reaches the bound reaches it too
-pub reaches_past : (from : List ℕ) (strict : Bool) (k l : List ℕ) → key_cmp k l ≡ Less → reaches from strict k ≡ true → reaches from strict l ≡ true
-reaches_past from true k l past at = ap is_lt (nat_list_cmp_total.trans from k l (is_less (key_cmp from k) at) past)
-reaches_past from false k l past at = ap is_le (above_past from k l past at)
-
 -- ---- what a binary search ends at
 
 module _ (ks : List (List ℕ)) (sorted : IsStrictlySortedBy key_cmp ks) where
   -- the keys before a place are below its key
   later_above : (i j : ℕ) (d : List ℕ) → i < j → j < length ks → key_cmp (get_or ks j d) (get_or ks i d) ≡ Greater
-  later_above i j d lt within = above_from_below (get_or ks i d) (get_or ks j d) (Less-from_sorted key_cmp ks i j d sorted lt within)
+  later_above i j d lt within = key_turned (get_or ks i d) (get_or ks j d) Less (Less-from_sorted key_cmp ks i j d sorted lt within)
 
   -- no key is below an earlier one
   never_falls : IsSortedBy (λ a b. is_lt (key_cmp a b)) ks
@@ -197,7 +159,7 @@ module _ (ks : List (List ℕ)) (sorted : IsStrictlySortedBy key_cmp ks) where
   -- a search by key ends at the key, or at its gap
   pub searched : (key : List ℕ) (r : Result ℕ ℕ) → IsSearchInRange r (length ks) → IsBinarySearchResult (λ k. key_cmp k key) ks r → record { found : IfOk r (IsFoundAt ks key); absent : IfErr r (IsGapAt ks key) }
   searched key (Ok at) within tied =
-      let here : (d : List ℕ) → get_or ks at d ≡ key = λ d. same_key (get_or ks at d) key (tied d) in
+      let here : (d : List ℕ) → get_or ks at d ≡ key = λ d. same_keys (get_or ks at d) key (tied d) in
       record {
         found = record {
           in_range = within;
@@ -212,9 +174,9 @@ module _ (ks : List (List ℕ)) (sorted : IsStrictlySortedBy key_cmp ks) where
         found = tt;
         absent = record {
           in_range = within;
-          below = from_places (λ k. key_cmp key k ≡ Greater) at (λ j d lt. above_from_below (get_or ks j d) key (parts.0 j d (omega arith) lt));
+          below = from_places (λ k. key_cmp key k ≡ Greater) at (λ j d lt. key_turned (get_or ks j d) key Less (parts.0 j d (omega arith) lt));
           above = recursion_from_All _ (drop at ks) (λ j d lt.
-              rw (get_or-drop at ks j d) (below_from_above (get_or ks (at + j) d) key (parts.1 (at + j) d (omega arith) (omega (arith, length-drop at ks, lt)))));
+              rw (get_or-drop at ks j d) (key_turned (get_or ks (at + j) d) key Greater (parts.1 (at + j) d (omega arith) (omega (arith, length-drop at ks, lt)))));
         };
       }
 

@@ -9,8 +9,9 @@ use Rattle.std.specs.Ordering.{is_eq}
 use Rattle.std.specs.Cmp.{tied_itself}
 use Rattle.std.specs.Cmp.Lexicographic.{nat_list_cmp_total}
 use Rattle.ltx_model.specs.Keys.{key_cmp}
-use Rattle.ltx_index.specs.Pairs.{IsInOrder, value_at, reaches, pairs_from}
-use Rattle.ltx_index.proofs.Places.{same_key}
+use Rattle.ltx_index.specs.Pairs.{IsInOrder, value_at, pairs_from}
+use Rattle.ltx_model.specs.NextKeys.{reaches}
+use Rattle.ltx_model.proofs.KeyOrder.{same_keys}
 use Rattle.ltx_index.proofs.Lookups.{value_at-pairs_from, value_at-lesser, all_reach, in_order-pairs_from}
 use Rattle.ltx_chain.specs.Versions.{Versions, latest}
 use Rattle.ltx_store.specs.Kept.{items_of}
@@ -41,7 +42,7 @@ bare_first q p rest order none = by_order (key_cmp q p.0) refl where
   by_order Less is = refl
   by_order Greater is = refl
   by_order Equal is =
-      let same : p.0 ≡ q = sym (same_key q p.0 is) in
+      let same : p.0 ≡ q = sym (same_keys q p.0 is) in
       none ∙ sym (ap (λ o. putter (latest (items_of o))) (value_at-lesser q rest (subst (λ k. AllByRecursion (λ l. key_cmp k l ≡ Less) (keys_of rest)) same order.0)))
 
 module _ (from : List ℕ) (strict : Bool) (table : Pairs) where

@@ -6,7 +6,8 @@ use Rattle.std.specs.Ordering.{is_lt}
 use Rattle.ltx_model.specs.Keys.{key_cmp, is_empty}
 use Rattle.ltx_model.specs.declared.rows.Row.{Row}
 use Rattle.ltx_model.specs.declared.writes.Look.{Look}
-use Rattle.ltx_index.specs.Pairs.{IsInOrder, reaches}
+use Rattle.ltx_index.specs.Pairs.{IsInOrder}
+use Rattle.ltx_model.specs.NextKeys.{reaches}
 use Rattle.ltx_chain.specs.Versions.{Versions}
 use Rattle.ltx_store.specs.Latest.{putter_at}
 use Rattle.ltx_store.specs.Scans.{between, rows_seen, looks_seen}
