@@ -2,7 +2,7 @@ use Rattle.std.proofs.Common.{◌≡◌, leb, take, filter, ap, ◌∙◌, sym, 
 use Rattle.std.proofs.lemmas.List.Sorted.{IsPartitionPoint-from_clause, IsPartitionedBy-leb}
 use Rattle.ltx_chain.specs.Versions.{is_at_most}
 use Rattle.ltx_chain.proofs.Seen.{rises, take-filter}
-use Rattle.ltx_chain.proofs.chain.count_seen.Goals as goal
+use Rattle.ltx_chain.proofs.run.count_seen.Goals as goal
 
 -- the binary search finds where the versions of at most the mark end
 seen : (c : goal.After-partition_point) → take c.partition_point.result c.args.versions.now ≡ filter (is_at_most c.args.mark) c.args.versions.now
