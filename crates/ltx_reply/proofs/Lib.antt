@@ -3,4 +3,3 @@ pub mod Hints
 pub mod PartLemmas
 pub mod Rising
 pub mod RowsRead
-pub mod Spaces

@@ -1,25 +1,16 @@
 -- A guess at the reply that a text is, by its words. Each text of a reply gives this reply; another text may give one as well.
-use Rattle.std.specs.Prelude.{ℕ, ◌^◌, ◌==◌, ◌&&◌, nat_lt, nat_le, if◌then◌else◌, List, [], ◌∷◌, length, Option, Some, None, codes, bytes_eq}
-use Rattle.std.specs.List.{slice_split}
-use Rattle.std.specs.Str.Parse.{digits_value}
+use Rattle.std.specs.Prelude.{ℕ, ◌^◌, ◌&&◌, nat_le, if◌then◌else◌, List, [], ◌∷◌, length, Option, Some, None, codes, bytes_eq}
 use Rattle.ltx_model.specs.declared.commands.Bad.{Bad}
 use Rattle.ltx_model.specs.declared.commands.Bad.TheVariants as causes
 use Rattle.ltx_model.specs.declared.replies.Reply.{Reply}
 use Rattle.ltx_model.specs.declared.replies.Reply.TheVariants as replies
 use Rattle.ltx_model.specs.declared.rows.Row.{Row}
+use Rattle.ltx_model.specs.Lists.{or_else}
 use Rattle.ltx_text.specs.Readings.{bytes_of}
-use Rattle.ltx_text.specs.Decimals.{decimal_of}
+use Rattle.ltx_text.specs.Cuts.{words_of}
+use Rattle.ltx_text.specs.Decimals.{number_in}
 
 -- ---- words
-
--- the words of a text: the parts between its spaces
-unfoldable pub words_of : List ℕ → List (List ℕ)
-words_of text = slice_split (λ b. b == 32) text
-
--- the words of what stands behind a space, if there is one
-abbrev pub words_after : Option (List ℕ) → List (List ℕ)
-words_after None = []
-words_after (Some text) = words_of text
 
 infixl 10 ◌>>=◌
 -- what follows a step that gave something
@@ -43,13 +34,6 @@ five words = do
   Some (a.0, b.0, c.0, d.0, e.0)
 
 -- ---- parts and their spellings
-
--- the number with this decimal, from the first on and below another
-unfoldable pub number_in : ℕ → ℕ → List ℕ → Option ℕ
-number_in first past word =
-    if nat_le first (digits_value 10 word) && nat_lt (digits_value 10 word) past && bytes_eq (decimal_of (digits_value 10 word)) word
-    then Some (digits_value 10 word)
-    else None
 
 abbrev pub tx_at : List ℕ → Option ℕ
 tx_at word = number_in 1 (2 ^ 63) word
@@ -224,10 +208,6 @@ fixed_at text =
 abbrev pub said_by : List (List ℕ) → Option Reply
 said_by [] = None
 said_by (word ∷ words) = worded_at word words
-
-abbrev pub or_else : {X : Type 0} → Option X → Option X → Option X
-or_else (Some x) other = Some x
-or_else None other = other
 
 -- the reply at which the words of a text hint
 unfoldable pub guess_at : List ℕ → Option Reply

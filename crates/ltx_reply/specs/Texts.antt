@@ -1,5 +1,5 @@
 -- The text of each reply: words of visible bytes with one space between two.
-use Rattle.std.specs.Prelude.{◌≢◌, ℕ, ◌<◌, ◌≤◌, ◌^◌, List, ◌∷◌, ◌++◌, length, flat_map, Option, Some, None, codes}
+use Rattle.std.specs.Prelude.{◌≢◌, ℕ, ◌<◌, ◌≤◌, ◌^◌, List, ◌++◌, length, flat_map, Option, Some, None, codes}
 use Rattle.std.specs.List.{AllByRecursion}
 use Rattle.ltx_model.specs.declared.commands.Bad.{Bad}
 use Rattle.ltx_model.specs.declared.commands.Bad.TheVariants as causes
@@ -7,12 +7,9 @@ use Rattle.ltx_model.specs.declared.replies.Reply.{Reply}
 use Rattle.ltx_model.specs.declared.replies.Reply.TheVariants as replies
 use Rattle.ltx_model.specs.declared.rows.Row.{Row}
 use Rattle.ltx_model.specs.Keys.{Cell, IsRising}
+use Rattle.ltx_text.specs.Cuts.{spaced}
 use Rattle.ltx_text.specs.Words.{AreBytes, word_of}
 use Rattle.ltx_text.specs.Decimals.{decimal_of}
-
--- a word after a space
-abbrev pub spaced : List ℕ → List ℕ
-spaced word = 32 ∷ word
 
 -- a transaction's number, or `none`
 abbrev pub writer_text : Option ℕ → List ℕ

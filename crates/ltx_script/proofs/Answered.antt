@@ -9,7 +9,8 @@ use Rattle.ltx_model.specs.declared.commands.Line.{Line}
 use Rattle.ltx_model.specs.declared.commands.Line.TheVariants as lines
 use Rattle.ltx_script.specs.Commands.{IsCommand, command_text}
 use Rattle.ltx_script.specs.Causes.{IsCause}
-use Rattle.ltx_script.specs.Lines.{words_of, is_word, command_at, said_at, most_bytes, reading, line_from, line_of, IfGood, IfBad}
+use Rattle.ltx_script.specs.Lines.{is_word, command_at, said_at, most_bytes, reading, line_from, line_of, IfGood, IfBad}
+use Rattle.ltx_text.specs.Cuts.{words_of}
 use Rattle.ltx_script.specs.Readers.{first_cause}
 use Rattle.ltx_script.proofs.Readings.{said_is, reading_is}
 use Rattle.ltx_script.proofs.Spelt.{words_true, spelt_again}

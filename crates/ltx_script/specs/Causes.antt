@@ -7,7 +7,8 @@ use Rattle.ltx_model.specs.Tables.{all_tables}
 use Rattle.ltx_text.specs.Words.{word_of}
 use Rattle.ltx_text.specs.Decimals.{decimal_of}
 use Rattle.ltx_script.specs.Commands.{set_text, IsKey, IsBound, IsValue}
-use Rattle.ltx_script.specs.Lines.{words_of, is_word, most_bytes}
+use Rattle.ltx_script.specs.Lines.{is_word, most_bytes}
+use Rattle.ltx_text.specs.Cuts.{words_of}
 
 -- what an argument of a verb is
 pub data Argument : Type 0 where

@@ -5,9 +5,9 @@ mod arguments;
 mod cuts;
 pub mod limits;
 pub mod parse;
-mod pieces;
 pub mod print;
 mod refusal;
+mod sets;
 mod verbs;
 
 #[cfg(test)]

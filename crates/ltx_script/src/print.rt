@@ -3,11 +3,12 @@
 ghost use Rattle.std.specs.Prelude.{◌≡◌, ◌++◌, length, take, OnOk, OnErr, ◌∷◌, codes};
 ghost use Rattle.ltx_script.specs.Commands.{joined, set_text, reads_words, operation_words, verb_words, command_text};
 
-use crate::pieces::{put_bytes, put_number, put_set, put_text};
+use crate::sets::put_set;
 use ltx_model::commands::{Command, Op, Verb};
 use ltx_model::memory::NoMemory;
 use ltx_model::tables::TableSet;
 use ltx_text::decimals::put_decimal;
+use ltx_text::print::{or_taken_back, put_bytes, put_number, put_text};
 
 /// Appends the words of an operation.
 fn put_operation(op: &Op, out: &mut Vec<u8>) -> Result<(), NoMemory>
@@ -93,8 +94,5 @@ pub fn print_command(command: &Command, out: &mut Vec<u8>) -> Result<(), NoMemor
 {
     let start = out.len();
     let done = put_command(command, out);
-    if done.is_err() {
-        out.truncate(start);
-    }
-    done
+    or_taken_back(done, start, out)
 }

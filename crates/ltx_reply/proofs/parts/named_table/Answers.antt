@@ -1,5 +1,6 @@
 use Rattle.std.proofs.Common.{◌≡◌, ◌∙◌, Some, sym, arith, inr, rules}
-use Rattle.ltx_reply.proofs.PartLemmas.{no_number, number_again, other_number}
+use Rattle.ltx_reply.proofs.PartLemmas.{number_again}
+use Rattle.ltx_text.proofs.Numbers.{no_number, other_number}
 use Rattle.ltx_reply.proofs.parts.named_table.Goals as goal
 
 pub returns-in_err-n : goal.returns-in_err-n

@@ -1,5 +1,6 @@
 use Rattle.std.proofs.Common.{◌∙◌, ◌^◌, sym, arith}
-use Rattle.ltx_reply.proofs.PartLemmas.{no_number, tx_is}
+use Rattle.ltx_reply.proofs.PartLemmas.{tx_is}
+use Rattle.ltx_text.proofs.Numbers.{no_number}
 use Rattle.ltx_reply.proofs.parts.named_tx.Goals as goal
 
 pub returns-in_err-decimal : goal.returns-in_err-decimal
