@@ -13,7 +13,8 @@ use Rattle.ltx_text.specs.Words.{AreVisible, is_visible, word_of}
 use Rattle.ltx_text.specs.Decimals.{decimal_of}
 use Rattle.ltx_text.proofs.DecimalLemmas.{decimal_digits, decimal_is_visible, no_digit}
 use Rattle.ltx_text.proofs.WordLemmas.{word_is_visible}
-use Rattle.ltx_reply.specs.Texts.{row_text, writer_text, cause_text, reply_text, witness_text, IsReply, IsTx, IsCount, IsTable, IsKey, IsValue, IsWriter, IsRow, IsWithinLimits}
+use Rattle.ltx_reply.specs.Texts.{row_text, writer_text, cause_text, reply_text, witness_text, IsReply, IsWriter, IsRow, IsWithinLimits}
+use Rattle.ltx_model.specs.Limits.{IsTx, IsCount, IsTable, IsKey, IsValue}
 use Rattle.ltx_text.specs.Cuts.{spaced, words_of}
 use Rattle.ltx_reply.specs.Readings.{tx_at, count_at, table_at, key_at, value_at, writer_at, cause_at, five, begun_at, committed_at, rows_in, rows_at, preserved_at, changed_at, late_at, contradicts_at, numbered_at, single_at, worded_at, fixed_at, guess_at}
 use Rattle.ltx_text.proofs.WordReadings.{bytes_again, both_true, other_bytes, same_bytes}

@@ -8,7 +8,8 @@ use Rattle.ltx_model.specs.declared.replies.Reply.TheVariants as replies
 use Rattle.ltx_model.specs.declared.rows.Row.{Row}
 use Rattle.ltx_model.specs.Keys.{Cell, IsRising}
 use Rattle.ltx_text.specs.Cuts.{spaced}
-use Rattle.ltx_text.specs.Words.{AreBytes, word_of}
+use Rattle.ltx_text.specs.Words.{word_of}
+use Rattle.ltx_model.specs.Limits.{AreBytes}
 use Rattle.ltx_text.specs.Decimals.{decimal_of}
 
 -- a transaction's number, or `none`

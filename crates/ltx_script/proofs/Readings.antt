@@ -14,7 +14,8 @@ use Rattle.ltx_model.specs.declared.commands.Bad.TheVariants as causes
 use Rattle.ltx_model.specs.Tables.{all_tables}
 use Rattle.ltx_text.specs.Words.{word_of}
 use Rattle.ltx_text.specs.Decimals.{decimal_of, number_in}
-use Rattle.ltx_script.specs.Commands.{joined, set_text, writes_word, reads_words, verb_words, command_words, command_text, IsKey, IsBound, IsValue, IsVerb, IsCommand}
+use Rattle.ltx_script.specs.Commands.{joined, set_text, writes_word, reads_words, verb_words, command_words, command_text, IsVerb, IsCommand}
+use Rattle.ltx_model.specs.Limits.{IsKey, IsBound, IsValue}
 use Rattle.ltx_text.specs.Readings.{bytes_of}
 use Rattle.ltx_script.specs.Lines.{is_word, within, unless_empty, marked, unless_all, ◌>>=◌, session_at, table_at, key_at, bound_at, value_at, writes_at, reads_at, alone, one_or_two, two, three, long_at, get_at, scan_at, put_at, del_at, verb_at, asked_at, ask_at, command_at, said_at, most_bytes, reading}
 use Rattle.ltx_text.specs.Cuts.{words_of}

@@ -15,11 +15,12 @@ use Rattle.ltx_model.specs.declared.commands.Verb.TheVariants as verbs
 use Rattle.ltx_model.specs.declared.commands.Command.{Command}
 use Rattle.ltx_model.specs.declared.commands.Command.TheVariants as commands
 use Rattle.ltx_model.specs.Tables.{all_tables}
-use Rattle.ltx_text.specs.Words.{AreBytes, is_visible, byte_spelling, is_plain, spellings, word_of}
+use Rattle.ltx_text.specs.Words.{is_visible, byte_spelling, is_plain, spellings, word_of}
+use Rattle.ltx_model.specs.Limits.{AreBytes, IsKey, IsBound, IsValue}
 use Rattle.ltx_text.specs.Decimals.{decimal_of}
 use Rattle.ltx_text.proofs.DecimalLemmas.{decimal_digits, decimal_is_visible}
 use Rattle.ltx_text.proofs.WordLemmas.{word_is_some, word_is_visible, plain_spelling, escaped_spelling}
-use Rattle.ltx_script.specs.Commands.{joined, commas, tables_of, tables_text, set_text, writes_word, reads_words, verb_words, command_words, command_text, IsKey, IsBound, IsValue, IsVerb, IsCommand}
+use Rattle.ltx_script.specs.Commands.{joined, commas, tables_of, tables_text, set_text, writes_word, reads_words, verb_words, command_words, command_text, IsVerb, IsCommand}
 use Rattle.ltx_script.specs.Lines.{is_word, table_at, session_at, key_at, bound_at, value_at, writes_at, reads_at, one_or_two, two, three, long_at, get_at, scan_at, put_at, del_at, verb_at, asked_at, ask_at, command_at, said_at, most_bytes, reading}
 use Rattle.ltx_text.specs.Cuts.{cut_at, words_of}
 use Rattle.ltx_script.specs.Rising.{IsRisingFrom}

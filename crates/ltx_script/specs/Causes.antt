@@ -6,7 +6,8 @@ use Rattle.ltx_model.specs.declared.commands.Bad.TheVariants as causes
 use Rattle.ltx_model.specs.Tables.{all_tables}
 use Rattle.ltx_text.specs.Words.{word_of}
 use Rattle.ltx_text.specs.Decimals.{decimal_of}
-use Rattle.ltx_script.specs.Commands.{set_text, IsKey, IsBound, IsValue}
+use Rattle.ltx_script.specs.Commands.{set_text}
+use Rattle.ltx_model.specs.Limits.{IsKey, IsBound, IsValue}
 use Rattle.ltx_script.specs.Lines.{is_word, most_bytes}
 use Rattle.ltx_text.specs.Cuts.{words_of}
 

@@ -8,7 +8,8 @@ use Rattle.ltx_model.specs.declared.commands.Verb.TheVariants as verbs
 use Rattle.ltx_model.specs.declared.commands.Command.{Command}
 use Rattle.ltx_model.specs.declared.commands.Command.TheVariants as commands
 use Rattle.ltx_model.specs.Tables.{has_table, all_tables}
-use Rattle.ltx_text.specs.Words.{AreBytes, word_of}
+use Rattle.ltx_text.specs.Words.{word_of}
+use Rattle.ltx_model.specs.Limits.{AreBytes}
 use Rattle.ltx_text.specs.Decimals.{decimal_of}
 
 -- words with one space between two

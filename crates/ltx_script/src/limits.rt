@@ -2,7 +2,8 @@
 //! spellings of commands within their limits is said of every command.
 
 ghost use Rattle.std.specs.Prelude.{◌<◌, ◌^◌};
-ghost use Rattle.ltx_script.specs.Commands.{IsBound, IsCommand, IsKey, IsOperation, IsValue, IsVerb};
+ghost use Rattle.ltx_script.specs.Commands.{IsCommand, IsOperation, IsVerb};
+ghost use Rattle.ltx_model.specs.Limits.{IsBound, IsKey, IsValue};
 
 use ltx_model::bytes::{Bound, Key, Value};
 use ltx_model::commands::{Command, Op, Verb};

@@ -4,7 +4,8 @@
 ghost use Rattle.std.specs.Prelude.{◌≡◌, ◌≢◌, ◌++◌, ◌<◌, ◌/◌, ◌%◌, ℕ, List, length, take, OnOk, OnErr, IfOk, IfSome, IfNone, IsFalse, IsSomeAnd, option_map};
 ghost use Rattle.std.specs.List.{list_all};
 ghost use Rattle.ltx_text.specs.Readings.{bytes_of};
-ghost use Rattle.ltx_text.specs.Words.{AreBytes, AreVisible, byte_spelling, hex_digit, is_plain, spellings, word_of};
+ghost use Rattle.ltx_text.specs.Words.{AreVisible, byte_spelling, hex_digit, is_plain, spellings, word_of};
+ghost use Rattle.ltx_model.specs.Limits.{AreBytes};
 
 use crate::print::or_taken_back;
 use ltx_model::memory::NoMemory;
