@@ -7,8 +7,7 @@ use Rattle.ltx_model.specs.declared.writes.Write.{Write}
 use Rattle.ltx_model.specs.Keys.{Cell, same_cell, IsRising}
 use Rattle.ltx_model.specs.StoredRows.{cell_of, row_at}
 use Rattle.ltx_model.specs.Operations.{cell_of_write, is_write_at, writes_at, writes_key, write_of, put_write, writes_after, writes_of}
-use Rattle.ltx_model.specs.Rows.{rows_after_all}
-use Rattle.ltx_lemmas.specs.Writes.{rows_after_put, rows_after_writes}
+use Rattle.ltx_model.specs.Rows.{rows_after_all, rows_after_put, rows_after_writes}
 use Rattle.ltx_lemmas.proofs.Cells.{item_at-put, row_at-put, row_at-without, same_cell_same}
 use Rattle.ltx_lemmas.proofs.Rising.{absent}
 use Rattle.ltx_lemmas.proofs.LastWrites.{rising_writes, last_writes_give}

@@ -12,8 +12,7 @@ use Rattle.ltx_model.specs.declared.writes.Write.{Write}
 use Rattle.ltx_model.specs.Keys.{Cell, cell_cmp, same_cell, in_range, put_in_order, AreAbove, IsRising}
 use Rattle.ltx_model.specs.StoredRows.{cell_of}
 use Rattle.ltx_model.specs.Operations.{cell_of_write, write_of, put_write, writes_after, writes_of}
-use Rattle.ltx_model.specs.Rows.{without, row_of, rows_between, rows_after_all}
-use Rattle.ltx_lemmas.specs.Writes.{rows_after_put, rows_after_writes}
+use Rattle.ltx_model.specs.Rows.{without, row_of, rows_between, rows_after_all, rows_after_put, rows_after_writes}
 use Rattle.ltx_lemmas.proofs.Cells.{same_cells, same_cell_same}
 use Rattle.ltx_lemmas.proofs.Rising.{above_later}
 use Rattle.ltx_lemmas.proofs.LastWrites.{rising_after_writes, last_writes_give}

@@ -9,8 +9,7 @@ use Rattle.ltx_model.specs.declared.writes.Write.{Write}
 use Rattle.ltx_model.specs.Keys.{Cell, same_cell, AreAbove, IsRising}
 use Rattle.ltx_model.specs.StoredRows.{cell_of}
 use Rattle.ltx_model.specs.Operations.{Transaction, operations, cell_of_write, writes_key, writes_of}
-use Rattle.ltx_model.specs.Rows.{rows_after_all}
-use Rattle.ltx_lemmas.specs.Writes.{rows_after_put, rows_after_writes}
+use Rattle.ltx_model.specs.Rows.{rows_after_all, rows_after_put, rows_after_writes}
 use Rattle.ltx_lemmas.proofs.Lists.{all_map, all_push, some_same}
 use Rattle.ltx_lemmas.proofs.Cells.{same_cell_same, item_at-is}
 use Rattle.ltx_lemmas.proofs.Rising.{absent}

@@ -2,11 +2,10 @@
 use Rattle.std.proofs.Common.{◌≡◌, ◌⊎◌, inl, inr, ℕ, ◌+◌, ◌<◌, ◌≤◌, Bool, true, false, cond, ◌||◌, List, [], ◌∷◌, ◌++◌, Some, refl, sym, ap, ◌∙◌, subst, arith, is_le, Contains}
 use Rattle.std.specs.List.{find, AllByRecursion}
 use Rattle.ltx_model.specs.declared.writes.Write.{Write}
-use Rattle.ltx_model.specs.Lists.{Numbered, numbered_from, numbered}
+use Rattle.ltx_model.specs.Lists.{Numbered, numbered_from, numbered, IsPairwise}
 use Rattle.ltx_model.specs.Keys.{Cell, cell_cmp, same_cell, put_in_order, AreAbove, IsRising}
 use Rattle.ltx_model.specs.Operations.{Transaction, operations, cell_of_write, writes_of}
 use Rattle.ltx_model.specs.Batches.{cells_written, cells_written_by}
-use Rattle.ltx_lemmas.specs.Pairs.{IsPairwise}
 use Rattle.ltx_lemmas.proofs.Lists.{all_map, all_contains, contains_parts, contains_cases, contains_none, some_same, none_some, true_false}
 use Rattle.ltx_lemmas.proofs.Cells.{same_cell_same, cell_cmp_refl}
 use Rattle.ltx_lemmas.proofs.Rising.{rising_put}

@@ -8,9 +8,9 @@ use Rattle.ltx_model.specs.States.{Base, IsSound, State, first_state}
 use Rattle.ltx_model.specs.Histories.{after}
 use Rattle.ltx_model.specs.Frames.{event_of, sealed}
 use Rattle.ltx_model.specs.Answers.{IsLegalFrom, IsLegalWith}
-use Rattle.ltx_lemmas.specs.Pairs.{IsPairwise}
-use Rattle.ltx_laws.specs.Logs.{frames_from, frames_of, events_of}
-use Rattle.ltx_laws.specs.Played.{epoch_of, NeverFalls}
+use Rattle.ltx_model.specs.Lists.{IsPairwise}
+use Rattle.ltx_model.specs.Logs.{frames_from, frames_of, events_of}
+use Rattle.ltx_model.specs.Played.{epoch_of, NeverFalls}
 use Rattle.ltx_laws.proofs.Pairs.{pairs_filter}
 use Rattle.ltx_laws.proofs.Transitions.{entry_case}
 use Rattle.ltx_laws.proofs.DropsHistories.{IsTimelyState, first_timely, timely_state_cases}

@@ -97,7 +97,7 @@ module _ (s : State) where
 
   answered_told : (op : Op) (reply : Reply) (session : ℕ) → effect_of reply ≡ Answers → Tells s (asks session (verbs.Do op)) reply (answered s op reply session)
   answered_told op reply session e = record {
-    opens = opens_change session (record { op = op; reply = reply; latest = latest s }) s.active ∙ rw e refl;
+    opens = opens_change session (record { op = op; reply = reply; order = serial s.agenda; latest = latest s }) s.active ∙ rw e refl;
     commits = sym (append-nil (commits_of s.moves)) ∙ rw e refl;
   }
 

@@ -5,7 +5,7 @@ use Rattle.std.specs.List.{list_any, cons_option, AllByRecursion}
 use Rattle.ltx_model.specs.declared.commands.Line.{Line}
 use Rattle.ltx_model.specs.declared.replies.Entry.{Entry}
 use Rattle.ltx_model.specs.declared.rows.StoredRow.{StoredRow}
-use Rattle.ltx_model.specs.Lists.{from_first}
+use Rattle.ltx_model.specs.Lists.{from_first, IsPairwise}
 use Rattle.ltx_model.specs.Keys.{Cell}
 use Rattle.ltx_model.specs.StoredRows.{row_at}
 use Rattle.ltx_model.specs.Operations.{Transaction, operations, writes_key}
@@ -14,16 +14,15 @@ use Rattle.ltx_model.specs.Agenda.{Member, LiveSlot, Committed, is_member, seria
 use Rattle.ltx_model.specs.States.{Active, Base, IsSound, State, LiveBatch, live_batches, latest, transaction_of, as_live}
 use Rattle.ltx_model.specs.Histories.{state}
 use Rattle.ltx_model.specs.Answers.{IsLegalWith}
+use Rattle.ltx_model.specs.Versions.{has_later, install, install_if, chain_from, chain_of, newest, version_row}
 use Rattle.ltx_lemmas.specs.Places.{is_before, AreApart}
 use Rattle.ltx_lemmas.proofs.Lists.{all_contains, any_not_all, contains_here, contains_cases, contains_none, contains_back, contains_parts, parts_join, given_item}
 use Rattle.ltx_lemmas.proofs.Members.{apart_one, apart_tail, before_asym}
 use Rattle.ltx_lemmas.proofs.Serials.{serial_member, serial_is_member}
 use Rattle.ltx_lemmas.proofs.Runs.{last_to_write, last_writes, silent_run}
-use Rattle.ltx_lemmas.specs.Pairs.{IsPairwise}
 use Rattle.ltx_laws.specs.Structure.{StandsAs, Stands}
-use Rattle.ltx_laws.specs.Orders.{IsPrefix}
+use Rattle.ltx_laws.specs.Orders.{IsPrefix, IsSublist}
 use Rattle.ltx_laws.specs.Drops.{AreLawful}
-use Rattle.ltx_laws.specs.Versions.{has_later, install, install_if, chain_from, chain_of, newest, version_row, IsSublist}
 use Rattle.ltx_laws.proofs.Structures.{structure_of}
 use Rattle.ltx_laws.proofs.Floors.{open_live}
 use Rattle.ltx_laws.proofs.DropsHistories.{timely_of}

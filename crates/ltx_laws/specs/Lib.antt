@@ -5,10 +5,7 @@ pub mod Told
 pub mod Commits
 pub mod Drops
 pub mod Priority
-pub mod Logs
-pub mod Versions
 pub mod Refusals
-pub mod Played
 pub mod Floors
 pub mod LastWriters
 pub mod Answered

@@ -9,11 +9,11 @@ ghost use Rattle.ltx_model.specs.Agenda.{serial};
 ghost use Rattle.ltx_model.specs.States.{Base, IsSound, State, serial_through, rows_through};
 ghost use Rattle.ltx_model.specs.Histories.{state};
 ghost use Rattle.ltx_model.specs.Answers.{IsLegalWith};
-ghost use Rattle.ltx_lemmas.specs.Writes.{rows_after_last_writes};
+ghost use Rattle.ltx_model.specs.Rows.{rows_after_last_writes};
+ghost use Rattle.ltx_model.specs.Logs.{frames_of, events_in, events_of, moves_through};
+ghost use Rattle.ltx_model.specs.Played.{Played, number_played, AreLawfulEvents, DoEpochsRise, IsClosed, AreCommitsNew, NeverFalls, after_events, played_list, committed_numbers, rows_after_played};
 ghost use Rattle.ltx_laws.specs.Drops.{logged_agenda, AreLawful};
 ghost use Rattle.ltx_laws.specs.Orders.{IsPrefix};
-ghost use Rattle.ltx_laws.specs.Logs.{frames_of, events_in, events_of, moves_through};
-ghost use Rattle.ltx_laws.specs.Played.{Played, number_played, AreLawfulEvents, AreInTime, NeverFalls, after_events, played_list, committed_numbers, rows_after_played};
 
 /// The moves of slots and commits, without those of batches that left, give the serial order when they are played on an empty
 /// list; and so do those of the epochs up to any one give the order through it.
@@ -45,12 +45,16 @@ pub fn moves_are_lawful()
 
 /// The frames that the flushes of a history write are lawful. Each event, played after those before it, is: a slot or a short has
 /// a new number, a batch its slot in the list, and its target before that slot. The epochs of the frames rise from above the base's
-/// durable one, each commit's epoch is above that of the frame before and at most its frame's, and in a frame they never fall.
+/// durable one, each commit's epoch is at most its frame's and above that of the frame before, and in a frame they never fall.
 pub fn frames_are_lawful()
     ensures events { (built : State → Line → Bool) (base : Base) (history : List Entry) → IsSound base
         → IsLegalWith built base history → AreLawfulEvents [] (events_in (frames_of base history)) }
     ensures epochs { (built : State → Line → Bool) (base : Base) (history : List Entry) → IsSound base
-        → IsLegalWith built base history → AreInTime base.durable (frames_of base history) }
+        → IsLegalWith built base history → DoEpochsRise base.durable (frames_of base history) }
+    ensures closed { (built : State → Line → Bool) (base : Base) (history : List Entry) → IsSound base
+        → IsLegalWith built base history → AllByRecursion IsClosed (frames_of base history) }
+    ensures new { (built : State → Line → Bool) (base : Base) (history : List Entry) → IsSound base
+        → IsLegalWith built base history → AreCommitsNew base.durable (frames_of base history) }
     ensures rising { (built : State → Line → Bool) (base : Base) (history : List Entry) → IsSound base
         → IsLegalWith built base history → AllByRecursion NeverFalls (frames_of base history) }
 {}

@@ -12,9 +12,9 @@ ghost use Rattle.ltx_model.specs.Agenda.{serial, is_member, part_before, commits
 ghost use Rattle.ltx_model.specs.States.{Base, IsSound, State, LiveBatch, live_batches, latest};
 ghost use Rattle.ltx_model.specs.Histories.{state};
 ghost use Rattle.ltx_model.specs.Answers.{IsLegalWith};
-ghost use Rattle.ltx_lemmas.specs.Pairs.{IsPairwise};
-ghost use Rattle.ltx_laws.specs.Orders.{IsPrefix};
-ghost use Rattle.ltx_laws.specs.Versions.{chain_of, newest, version_row, IsSublist};
+ghost use Rattle.ltx_model.specs.Lists.{IsPairwise};
+ghost use Rattle.ltx_model.specs.Versions.{chain_of, newest, version_row};
+ghost use Rattle.ltx_laws.specs.Orders.{IsPrefix, IsSublist};
 
 /// The installed versions of a key are writes of committed transactions, and they rise in commit time and in agenda order alike:
 /// they stand in the order of the commits, and each one stands before each later one in the agenda.

@@ -4,7 +4,7 @@ use Rattle.std.specs.List.{find, AllByRecursion}
 use Rattle.std.specs.declared.cmp.Ordering.{Ordering}
 use Rattle.std.specs.declared.cmp.Ordering.TheVariants.{Less, Equal, Greater}
 use Rattle.std.specs.Ordering.{is_le}
-use Rattle.ltx_model.specs.Lists.{Numbered, numbered, numbered_from}
+use Rattle.ltx_model.specs.Lists.{Numbered, numbered, numbered_from, IsPairwise}
 use Rattle.ltx_model.specs.Keys.{Cell, cell_cmp, same_cell, AreAbove, IsRising, put_in_order}
 use Rattle.ltx_model.specs.declared.rows.StoredRow.{StoredRow}
 use Rattle.ltx_model.specs.StoredRows.{cell_of}
@@ -13,7 +13,6 @@ use Rattle.ltx_lemmas.proofs.Lists.{some_same, none_some, contains_here, contain
 use Rattle.ltx_lemmas.proofs.Cells.{same_cell_same, cell_cmp_refl}
 use Rattle.ltx_lemmas.proofs.Rising.{rising_put}
 use Rattle.ltx_lemmas.proofs.Searches.{is_in}
-use Rattle.ltx_lemmas.specs.Pairs.{IsPairwise}
 use Rattle.ltx_lemmas.proofs.Pairwise.{pairs_behind}
 
 module _ {X : Type 0} where

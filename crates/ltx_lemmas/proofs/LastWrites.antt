@@ -7,8 +7,7 @@ use Rattle.ltx_model.specs.declared.writes.Write.{Write}
 use Rattle.ltx_model.specs.Keys.{Cell, same_cell, put_in_order, IsRising}
 use Rattle.ltx_model.specs.StoredRows.{cell_of, row_at}
 use Rattle.ltx_model.specs.Operations.{Transaction, operations, write_of, cell_of_write, put_write, writes_after, writes_of}
-use Rattle.ltx_model.specs.Rows.{rows_after, rows_after_all, rows_after_transaction, run}
-use Rattle.ltx_lemmas.specs.Writes.{rows_after_put, rows_after_writes, rows_after_last_writes}
+use Rattle.ltx_model.specs.Rows.{rows_after, rows_after_all, rows_after_transaction, run, rows_after_put, rows_after_writes, rows_after_last_writes}
 use Rattle.ltx_lemmas.proofs.Cells.{item_at, item_at-put, row_at-put, row_at-without, same_cell_same}
 use Rattle.ltx_lemmas.proofs.Rising.{absent, rising_put, rising_filter, rising_after_all, rising_transaction, same_rows}
 

@@ -1,4 +1,10 @@
 pub mod OneMore
 pub mod WorkedScripts
 pub mod TableSets
+pub mod Orderings
 pub mod Words
+pub mod KeyOrder
+pub mod CellOrder
+pub mod ItemsAt
+pub mod Rising
+pub mod RowsAt

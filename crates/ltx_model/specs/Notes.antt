@@ -1,5 +1,5 @@
 -- What a transaction notes of its operations: of each key that was looked up the writer that was found, and what was written.
-use Rattle.std.specs.Prelude.{◌≡◌, ℕ, Bool, true, false, List, [], ◌∷◌, map, Option, Some, None, option_map, if◌then◌else◌}
+use Rattle.std.specs.Prelude.{◌≡◌, ℕ, Bool, true, false, not, ◌&&◌, List, [], ◌∷◌, map, Option, Some, None, option_map, if◌then◌else◌}
 use Rattle.std.specs.List.{find, list_any, AllByRecursion}
 use Rattle.std.specs.Ordering.{is_eq}
 use Rattle.ltx_model.specs.declared.commands.Op.{Op}
@@ -32,6 +32,23 @@ look_of looks key = find (λ look. is_eq (key_cmp look.key key)) looks
 -- the key is one of these
 abbrev pub is_one_of : List (List ℕ) → List ℕ → Bool
 is_one_of keys key = list_any (λ k. is_eq (key_cmp k key)) keys
+
+-- the writer by a look, none where there is no look
+abbrev pub found_in : Option Look → Option ℕ
+found_in None = None
+found_in (Some look) = found_by look
+
+-- the reach looked the key up
+abbrev pub asks : Reach → List ℕ → Bool
+asks Nothing k = false
+asks (Point key look own) k = not own && is_eq (key_cmp key k)
+asks (Range low high looks own) k = in_range low high k && not (is_one_of own k)
+
+-- the writer that the reach notes of a key
+abbrev pub found_at : Reach → List ℕ → Option ℕ
+found_at Nothing k = None
+found_at (Point key look own) k = found_in look
+found_at (Range low high looks own) k = found_in (look_of looks k)
 
 -- What is noted of a range of a table that was looked up in rows, after these earlier operations: looks in the order of their keys,
 -- which tell of each key of the range that they did not write, and the keys of the range that they wrote, in order.

@@ -19,9 +19,9 @@ use Rattle.ltx_model.specs.StoredRows.{writer_at}
 use Rattle.ltx_model.specs.Operations.{table_of, writes_at, looks_up}
 use Rattle.ltx_model.specs.States.{Step}
 use Rattle.ltx_model.specs.Shorts.{Change, Changes, IsNotAfter, IsFirstChange}
-use Rattle.ltx_model.specs.Notes.{look_of, is_one_of, IsLook, IsRange, IsPoint, IsReach, IsNote, AreNotesOf, AreNotes}
+use Rattle.ltx_model.specs.Notes.{look_of, is_one_of, IsLook, IsRange, IsPoint, IsReach, IsNote, AreNotesOf, AreNotes, found_in, asks, found_at}
 use Rattle.ltx_validate.specs.declared.difference.Difference.{Difference}
-use Rattle.ltx_validate.specs.Differences.{at, found_in, asks, found_at, AreRisingLooks, IsOrdered, IsLeastDifference, Tells}
+use Rattle.ltx_validate.specs.Differences.{at, AreRisingLooks, IsOrdered, IsLeastDifference, Tells}
 use Rattle.ltx_validate.proofs.Keys.{turn, itself, same_key, is_equal}
 use Rattle.ltx_validate.proofs.Cells.{same_cell_same, in_table}
 

@@ -10,7 +10,8 @@ use Rattle.ltx_model.specs.declared.looked.Reach.TheVariants.{Point}
 use Rattle.ltx_model.specs.Keys.{key_cmp}
 use Rattle.ltx_model.specs.StoredRows.{writer_at}
 use Rattle.ltx_model.specs.NextKeys.{IsNextKey}
-use Rattle.ltx_validate.specs.Differences.{at, found_in, IsLeastDifference, Tells}
+use Rattle.ltx_model.specs.Notes.{found_in}
+use Rattle.ltx_validate.specs.Differences.{at, IsLeastDifference, Tells}
 use Rattle.ltx_validate.specs.Turns.{is_below, NextRow}
 use Rattle.ltx_validate.proofs.Keys.{turn, itself, same_key, is_equal, below_lesser}
 

@@ -13,8 +13,8 @@ use Rattle.ltx_model.specs.declared.looked.Reach.TheVariants.{Range}
 use Rattle.ltx_model.specs.Keys.{key_cmp, in_range}
 use Rattle.ltx_model.specs.StoredRows.{writer_at}
 use Rattle.ltx_model.specs.NextKeys.{reaches}
-use Rattle.ltx_model.specs.Notes.{found_by, look_of, is_one_of}
-use Rattle.ltx_validate.specs.Differences.{at, found_in, asks, AreRisingLooks, IsOrdered, IsSame, IsLeastDifference, Tells}
+use Rattle.ltx_model.specs.Notes.{found_by, look_of, is_one_of, found_in, asks}
+use Rattle.ltx_validate.specs.Differences.{at, AreRisingLooks, IsOrdered, IsSame, IsLeastDifference, Tells}
 use Rattle.ltx_validate.specs.Turns.{Turning, turn_by, turn_of, is_below, IsNextRow, NextRow, IsWalk}
 use Rattle.ltx_validate.proofs.Keys.{is_less, turn, itself, same_key, trans, past_reaches, not_past, below_lesser}
 

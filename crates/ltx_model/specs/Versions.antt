@@ -1,5 +1,5 @@
 -- The installed versions of a key, and the row that a version gives.
-use Rattle.std.specs.Prelude.{◌≡◌, ◌⊎◌, Bool, not, ◌&&◌, List, [], ◌∷◌, ◌++◌, Option, Some, None, if◌then◌else◌}
+use Rattle.std.specs.Prelude.{Bool, not, ◌&&◌, List, [], ◌∷◌, ◌++◌, Option, Some, None, if◌then◌else◌}
 use Rattle.std.specs.List.{list_any}
 use Rattle.ltx_model.specs.declared.rows.StoredRow.{StoredRow}
 use Rattle.ltx_model.specs.Lists.{or_else}
@@ -39,9 +39,3 @@ newest (t ∷ ts) = or_else (newest ts) (Some t)
 abbrev pub version_row : List StoredRow → Cell → Option Transaction → Option StoredRow
 version_row base key None = row_at base key
 version_row base key (Some t) = row_at (rows_after_all t.number [] (operations t)) key
-
--- the items of the first list stand in the second, in the same order
-abbrev pub IsSublist : {A : Type 0} → List A → List A → Type 0
-IsSublist [] ys = Unit {0}
-IsSublist (x ∷ xs) [] = ⊥
-IsSublist (x ∷ xs) (y ∷ ys) = ((x ≡ y) × IsSublist xs ys) ⊎ IsSublist (x ∷ xs) ys

@@ -3,10 +3,9 @@ use Rattle.std.specs.Prelude.{◌≡◌, ℕ, ◌<◌, ◌≤◌, Bool, true, fa
 use Rattle.std.specs.List.{list_any, AllByRecursion}
 use Rattle.ltx_model.specs.declared.rows.StoredRow.{StoredRow}
 use Rattle.ltx_model.specs.declared.writes.Write.{Write}
-use Rattle.ltx_model.specs.Lists.{before_first}
+use Rattle.ltx_model.specs.Lists.{before_first, IsPairwise}
 use Rattle.ltx_model.specs.Frames.{LogEvent, SlotEvent, ShortEvent, BatchEvent, Frame}
-use Rattle.ltx_lemmas.specs.Pairs.{IsPairwise}
-use Rattle.ltx_lemmas.specs.Writes.{rows_after_writes}
+use Rattle.ltx_model.specs.Rows.{rows_after_writes}
 
 -- a member of the list: the slot of a batch, or what is committed, a number and its writes
 pub data Played : Type 0 where
@@ -83,17 +82,31 @@ abbrev pub AreLawfulEvents : List Played → List LogEvent → Type 0
 AreLawfulEvents ps [] = Unit {0}
 AreLawfulEvents ps (e ∷ es) = IsLawfulEvent ps e × AreLawfulEvents (after_event ps e) es
 
--- the epoch of a commit is above one epoch and at most another
-abbrev pub IsWithin : ℕ → ℕ → LogEvent → Type 0
-IsWithin lower upper (SlotEvent n) = Unit {0}
-IsWithin lower upper (ShortEvent n epoch writes) = (lower < epoch) × (epoch ≤ upper)
-IsWithin lower upper (BatchEvent n epoch target writes) = (lower < epoch) × (epoch ≤ upper)
+-- the epoch of a commit is above this one
+abbrev pub IsCommitAbove : ℕ → LogEvent → Type 0
+IsCommitAbove before (SlotEvent n) = Unit {0}
+IsCommitAbove before (ShortEvent n epoch writes) = before < epoch
+IsCommitAbove before (BatchEvent n epoch target writes) = before < epoch
 
--- Each frame's epoch is above that of the frame before, or above this one for the first; its commits have epochs above that of the
--- frame before and at most its own.
-abbrev pub AreInTime : ℕ → List Frame → Type 0
-AreInTime before [] = Unit {0}
-AreInTime before (f ∷ fs) = (before < f.epoch) × AllByRecursion (IsWithin before f.epoch) f.events × AreInTime f.epoch fs
+-- the epoch of a commit is at most this one
+abbrev pub IsCommitUpTo : ℕ → LogEvent → Type 0
+IsCommitUpTo last (SlotEvent n) = Unit {0}
+IsCommitUpTo last (ShortEvent n epoch writes) = epoch ≤ last
+IsCommitUpTo last (BatchEvent n epoch target writes) = epoch ≤ last
+
+-- each frame's epoch is above that of the frame before, or above this one for the first
+abbrev pub DoEpochsRise : ℕ → List Frame → Type 0
+DoEpochsRise before [] = Unit {0}
+DoEpochsRise before (f ∷ fs) = (before < f.epoch) × DoEpochsRise f.epoch fs
+
+-- the commits of a frame have epochs up to its own
+abbrev pub IsClosed : Frame → Type 0
+IsClosed f = AllByRecursion (IsCommitUpTo f.epoch) f.events
+
+-- the commits of each frame have epochs above that of the frame before, or above this one in the first
+abbrev pub AreCommitsNew : ℕ → List Frame → Type 0
+AreCommitsNew before [] = Unit {0}
+AreCommitsNew before (f ∷ fs) = AllByRecursion (IsCommitAbove before) f.events × AreCommitsNew f.epoch fs
 
 -- the epoch of a commit
 abbrev pub epoch_of : LogEvent → Option ℕ
