@@ -15,7 +15,7 @@ use Rattle.ltx_text.proofs.DecimalLemmas.{decimal_digits, decimal_is_visible, no
 use Rattle.ltx_text.proofs.WordLemmas.{word_is_visible}
 use Rattle.ltx_reply.specs.Texts.{row_text, writer_text, cause_text, reply_text, witness_text, IsReply, IsWriter, IsRow, IsWithinLimits}
 use Rattle.ltx_model.specs.Limits.{IsTx, IsCount, IsTable, IsKey, IsValue}
-use Rattle.ltx_text.specs.Cuts.{spaced, words_of}
+use Rattle.ltx_text.specs.Cuts.{spaced, cut_at, words_of}
 use Rattle.ltx_reply.specs.Readings.{tx_at, count_at, table_at, key_at, value_at, writer_at, cause_at, five, begun_at, committed_at, rows_in, rows_at, preserved_at, changed_at, late_at, contradicts_at, numbered_at, single_at, worded_at, fixed_at, guess_at}
 use Rattle.ltx_text.proofs.WordReadings.{bytes_again, both_true, other_bytes, same_bytes}
 use Rattle.ltx_text.proofs.Numbers.{number_some}
@@ -63,13 +63,13 @@ tx_apart : (n : ℕ) → IsTx n → HasNoSpace (decimal_of n)
 tx_apart n tx = visible_word (decimal_of n) (decimal_is_visible n (omega (arith, tx.1)))
 
 tx_again : (n : ℕ) → IsTx n → tx_at (decimal_of n) ≡ Some n
-tx_again n tx = number_some (decimal_of n) 1 (2 ^ 63) n (omega (arith, tx.0)) tx.1 (omega arith) refl
+tx_again n tx = number_some (decimal_of n) 1 9223372036854775808 n (omega (arith, tx.0)) (omega (arith, tx.1)) (omega arith) refl
 
 count_apart : (n : ℕ) → IsCount n → HasNoSpace (decimal_of n)
 count_apart n low = visible_word (decimal_of n) (decimal_is_visible n (omega (arith, low)))
 
 count_again : (n : ℕ) → IsCount n → count_at (decimal_of n) ≡ Some n
-count_again n low = number_some (decimal_of n) 0 (2 ^ 32) n (omega arith) low (omega arith) refl
+count_again n low = number_some (decimal_of n) 0 4294967296 n (omega arith) low (omega arith) refl
 
 table_apart : (n : ℕ) → IsTable n → HasNoSpace (decimal_of n)
 table_apart n low = visible_word (decimal_of n) (decimal_is_visible n (omega (arith, low)))

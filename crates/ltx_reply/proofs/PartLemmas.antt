@@ -1,13 +1,8 @@
 -- Keys and values against their spellings.
-use Rattle.std.proofs.Common.{◌≡◌, ◌≢◌, ℕ, ◌^◌, ◌<◌, ◌≤◌, ◌⊎◌, Bool, true, false, ◌&&◌, List, length, Option, Some, None, refl, sym, ap, ◌∙◌, arith, inl, inr}
-use Rattle.std.specs.Prelude.{bytes_eq, nat_lt, nat_le, is_some, IfSome, IfNone}
-use Rattle.std.specs.Str.Parse.{digits_value}
-use Rattle.std.proofs.lemmas.Bool.{cases_Bool}
-use Rattle.ltx_text.specs.Decimals.{decimal_of, number_in}
+use Rattle.std.proofs.Common.{◌≡◌, ℕ, ◌<◌, ◌≤◌, ◌⊎◌, Bool, true, false, ◌&&◌, List, length, Some, None, refl, arith, inl, inr}
+use Rattle.std.specs.Prelude.{nat_le}
 use Rattle.ltx_text.specs.Readings.{bytes_of}
-use Rattle.ltx_text.proofs.DecimalLemmas.{decimal_digits}
-use Rattle.ltx_text.proofs.WordReadings.{same_bytes, other_bytes}
-use Rattle.ltx_reply.specs.Readings.{key_at, value_at, tx_at}
+use Rattle.ltx_reply.specs.Readings.{key_at, value_at}
 
 at_most : (a b : ℕ) → a ≤ b → nat_le a b ≡ true
 at_most a b low = grind arith

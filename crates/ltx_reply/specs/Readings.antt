@@ -1,10 +1,11 @@
 -- A guess at the reply that a text is, by its words. Each text of a reply gives this reply; another text may give one as well.
-use Rattle.std.specs.Prelude.{ℕ, ◌^◌, ◌&&◌, nat_le, if◌then◌else◌, List, [], ◌∷◌, length, Option, Some, None, codes, bytes_eq}
+use Rattle.std.specs.Prelude.{ℕ, ◌+◌, ◌&&◌, nat_le, if◌then◌else◌, List, [], ◌∷◌, length, Option, Some, None, codes, bytes_eq}
 use Rattle.ltx_model.specs.declared.commands.Bad.{Bad}
 use Rattle.ltx_model.specs.declared.commands.Bad.TheVariants as causes
 use Rattle.ltx_model.specs.declared.replies.Reply.{Reply}
 use Rattle.ltx_model.specs.declared.replies.Reply.TheVariants as replies
 use Rattle.ltx_model.specs.declared.rows.Row.{Row}
+use Rattle.ltx_model.specs.Limits.{table_count, last_number, count_limit, key_limit, value_limit}
 use Rattle.ltx_model.specs.Lists.{or_else}
 use Rattle.ltx_text.specs.Readings.{bytes_of}
 use Rattle.ltx_text.specs.Cuts.{words_of}
@@ -36,14 +37,14 @@ five words = do
 -- ---- parts and their spellings
 
 abbrev pub tx_at : List ℕ → Option ℕ
-tx_at word = number_in 1 (2 ^ 63) word
+tx_at word = number_in 1 (last_number + 1) word
 
 -- an epoch or an operation
 abbrev pub count_at : List ℕ → Option ℕ
-count_at word = number_in 0 (2 ^ 32) word
+count_at word = number_in 0 count_limit word
 
 abbrev pub table_at : List ℕ → Option ℕ
-table_at word = number_in 0 64 word
+table_at word = number_in 0 table_count word
 
 -- a byte string of such a length
 abbrev pub of_length : ℕ → ℕ → Option (List ℕ) → Option (List ℕ)
@@ -51,10 +52,10 @@ of_length least most None = None
 of_length least most (Some bytes) = if nat_le least (length bytes) && nat_le (length bytes) most then Some bytes else None
 
 abbrev pub key_at : List ℕ → Option (List ℕ)
-key_at word = of_length 1 64 (bytes_of word)
+key_at word = of_length 1 key_limit (bytes_of word)
 
 abbrev pub value_at : List ℕ → Option (List ℕ)
-value_at word = of_length 0 1024 (bytes_of word)
+value_at word = of_length 0 value_limit (bytes_of word)
 
 abbrev pub some_writer : Option ℕ → Option (Option ℕ)
 some_writer None = None

@@ -90,7 +90,7 @@ fn rows(rows: &[Row])
 }
 
 /// That the reply is within the limits of its parts.
-pub fn is_within_limits(reply: &Reply)
+pub(crate) fn is_within_limits(reply: &Reply)
     ensures { IsWithinLimits reply.now }
 {
     match reply {

@@ -1,5 +1,5 @@
 -- Reading a line: the command with this spelling, or the first cause why there is none.
-use Rattle.std.specs.Prelude.{◌≡◌, ℕ, Bool, ◌==◌, ◌&&◌, nat_lt, if◌then◌else◌, List, [], ◌∷◌, length, take, drop, Option, Some, None, Result, Ok, Err, ok_or, filter_map, fold, codes, bytes_eq}
+use Rattle.std.specs.Prelude.{◌≡◌, ℕ, ◌+◌, Bool, ◌==◌, ◌&&◌, nat_lt, if◌then◌else◌, List, [], ◌∷◌, length, take, drop, Option, Some, None, Result, Ok, Err, ok_or, filter_map, fold, codes, bytes_eq}
 use Rattle.std.specs.List.{list_all}
 use Rattle.ltx_model.specs.declared.commands.Op.TheVariants.{Get, Scan, Put, Del}
 use Rattle.ltx_model.specs.declared.commands.Verb.{Verb}
@@ -10,6 +10,7 @@ use Rattle.ltx_model.specs.declared.commands.Bad.{Bad}
 use Rattle.ltx_model.specs.declared.commands.Bad.TheVariants as causes
 use Rattle.ltx_model.specs.declared.commands.Line.{Line}
 use Rattle.ltx_model.specs.declared.commands.Line.TheVariants as lines
+use Rattle.ltx_model.specs.Limits.{table_count, last_session, key_limit, bound_limit, value_limit}
 use Rattle.ltx_model.specs.Tables.{all_tables, no_tables, with_table}
 use Rattle.ltx_text.specs.Readings.{bytes_of}
 use Rattle.ltx_text.specs.Words.{is_visible}
@@ -38,7 +39,7 @@ unless_empty (Some (b ∷ bytes)) = Some (b ∷ bytes)
 
 -- the set of the tables that are named between commas
 abbrev pub named_tables : List ℕ → ℕ
-named_tables text = fold with_table no_tables (filter_map (number_in 0 64) (cut_at 44 text))
+named_tables text = fold with_table no_tables (filter_map (number_in 0 table_count) (cut_at 44 text))
 
 -- the set of tables with this spelling
 unfoldable pub set_of : List ℕ → Option ℕ
@@ -65,19 +66,19 @@ abbrev pub ◌>>=◌ : {A B : Type 0} → Result A Bad → (A → Result B Bad) 
 (Err cause) >>= f = Err cause
 
 abbrev pub session_at : List ℕ → Result ℕ Bad
-session_at word = ok_or (number_in 1 1025 word) causes.Session
+session_at word = ok_or (number_in 1 (last_session + 1) word) causes.Session
 
 abbrev pub table_at : List ℕ → Result ℕ Bad
-table_at word = ok_or (number_in 0 64 word) causes.Table
+table_at word = ok_or (number_in 0 table_count word) causes.Table
 
 abbrev pub key_at : List ℕ → Result (List ℕ) Bad
-key_at word = ok_or (unless_empty (within 64 (bytes_of word))) causes.Key
+key_at word = ok_or (unless_empty (within key_limit (bytes_of word))) causes.Key
 
 abbrev pub bound_at : List ℕ → Result (List ℕ) Bad
-bound_at word = ok_or (within 64 (bytes_of word)) causes.Key
+bound_at word = ok_or (within bound_limit (bytes_of word)) causes.Key
 
 abbrev pub value_at : List ℕ → Result (List ℕ) Bad
-value_at word = ok_or (within 1024 (bytes_of word)) causes.Value
+value_at word = ok_or (within value_limit (bytes_of word)) causes.Value
 
 -- the area that a batch writes
 abbrev pub writes_at : List ℕ → Result ℕ Bad

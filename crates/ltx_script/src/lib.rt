@@ -3,7 +3,7 @@
 
 mod arguments;
 mod cuts;
-pub mod limits;
+mod limits;
 pub mod parse;
 pub mod print;
 mod refusal;

@@ -3,7 +3,7 @@
 
 ghost use Rattle.std.specs.Prelude.{◌<◌, ◌^◌};
 ghost use Rattle.ltx_script.specs.Commands.{IsCommand, IsOperation, IsVerb};
-ghost use Rattle.ltx_model.specs.Limits.{IsBound, IsKey, IsValue};
+ghost use Rattle.ltx_model.specs.Limits.{IsBound, IsKey, IsTable, IsValue};
 
 use ltx_model::bytes::{Bound, Key, Value};
 use ltx_model::commands::{Command, Op, Verb};
@@ -11,9 +11,9 @@ use ltx_model::numbers::Table;
 use ltx_model::tables::TableSet;
 use ltx_text::words::are_bytes;
 
-/// There are 64 tables.
+/// A table has one of the numbers of tables.
 fn table(table: Table)
-    ensures { table < 64 }
+    ensures { IsTable table }
 {
     let _ = table.number();
 }
@@ -27,21 +27,21 @@ fn set(set: TableSet)
     }
 }
 
-/// A key is 1 to 64 bytes.
+/// A key is within its limits.
 fn key(key: &Key)
     ensures { IsKey key.now }
 {
     are_bytes(key.bytes());
 }
 
-/// An end of a scan is 0 to 64 bytes.
+/// An end of a scan is within its limit.
 fn bound(bound: &Bound)
     ensures { IsBound bound.now }
 {
     are_bytes(bound.bytes());
 }
 
-/// A value is 0 to 1,024 bytes.
+/// A value is within its limit.
 fn value(value: &Value)
     ensures { IsValue value.now }
 {
@@ -93,7 +93,7 @@ fn verb(verb: &Verb)
 }
 
 /// That the parts of the command are within their limits.
-pub fn is_within_limits(command: &Command)
+pub(crate) fn is_within_limits(command: &Command)
     ensures { IsCommand command.now }
 {
     if let Command::Ask(session, asked) = command {

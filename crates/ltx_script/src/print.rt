@@ -1,8 +1,11 @@
 //! Printing a command: its words, with one space between two.
 
 ghost use Rattle.std.specs.Prelude.{◌≡◌, ◌++◌, length, take, OnOk, OnErr, ◌∷◌, codes};
+ghost use Rattle.ltx_model.specs.declared.commands.Line.TheVariants.{Good};
+ghost use Rattle.ltx_script.specs.Lines.{line_of};
 ghost use Rattle.ltx_script.specs.Commands.{joined, set_text, reads_words, operation_words, verb_words, command_text};
 
+use crate::limits::is_within_limits;
 use crate::sets::put_set;
 use ltx_model::commands::{Command, Op, Verb};
 use ltx_model::memory::NoMemory;
@@ -88,11 +91,15 @@ fn put_command(command: &Command, out: &mut Vec<u8>) -> Result<(), NoMemory>
 }
 
 /// Appends the command's spelling to `out`. Each command has one spelling. Without memory `out` stays as it was.
+#[tactic(auto, using(crate::proofs::Answered::read_back))]
 pub fn print_command(command: &Command, out: &mut Vec<u8>) -> Result<(), NoMemory>
     ensures ok { OnOk result (out.new.items ≡ out.old.items ++ command_text command.now) }
     ensures err { OnErr result (out.new.items ≡ out.old.items) }
+    // What is printed is read as this command.
+    ensures again { line_of (command_text command.now) ≡ Good command.now }
 {
     let start = out.len();
+    is_within_limits(command);
     let done = put_command(command, out);
     or_taken_back(done, start, out)
 }
