@@ -53,7 +53,10 @@ pub const ORDERS: &[(&str, &str)] = &[
     ("9 put 1 total:monday 5", "notx"),
     ("9 commit", "notx"),
     ("2 short", "begun 3"),
-    ("2 scan 0 order: order;", "rows 2 order:0001 apples%203 order:0002 pears%202"),
+    (
+        "2 scan 0 order: order;",
+        "rows 2 order:0001 apples%203 order:0002 pears%202",
+    ),
     ("2 get 1 total:monday", "found 3"),
     ("2 commit", "committed 2"),
     ("flush", "later"),
