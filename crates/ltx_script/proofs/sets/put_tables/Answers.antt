@@ -1,6 +1,7 @@
 use Rattle.std.proofs.Common.{◌≡◌, ◌+◌, ◌≤◌, arith, rules}
-use Rattle.ltx_script.proofs.Spellings.{kept_front, member_start, member_step, member_end}
-use Rattle.ltx_script.proofs.pieces.put_tables.Goals as goal
+use Rattle.ltx_script.proofs.Spellings.{member_start, member_step, member_end}
+use Rattle.ltx_text.proofs.Fronts.{kept_front}
+use Rattle.ltx_script.proofs.sets.put_tables.Goals as goal
 
 pub returns-in_err-put_member-clause-front : goal.returns-in_err-put_member-clause-front
 returns-in_err-put_member-clause-front c =

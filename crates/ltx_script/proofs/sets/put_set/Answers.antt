@@ -2,7 +2,7 @@ use Rattle.std.proofs.Common.{◌≡◌, ◌==◌, ◌++◌, false, ap, sym, ◌
 use Rattle.std.proofs.lemmas.Result.{on_ok_weaker}
 use Rattle.ltx_model.specs.Tables.{all_tables}
 use Rattle.ltx_script.proofs.Spellings.{no_tables_text, least_text}
-use Rattle.ltx_script.proofs.pieces.put_set.Goals as goal
+use Rattle.ltx_script.proofs.sets.put_set.Goals as goal
 
 pub returns-in-None-clause-ok : goal.returns-in-None-clause-ok
 returns-in-None-clause-ok c =

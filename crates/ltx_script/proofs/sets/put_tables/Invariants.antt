@@ -1,7 +1,7 @@
 use Rattle.std.proofs.Common.{◌≡◌, ◌++◌, ◌<◌, ◌∷◌}
 use Rattle.ltx_script.specs.Commands.{commas}
 use Rattle.ltx_script.proofs.Spellings.{between}
-use Rattle.ltx_script.proofs.pieces.put_tables.Given as goal
+use Rattle.ltx_script.proofs.sets.put_tables.Given as goal
 
 abbrev pub invariant-loop-n : goal.invariant-loop-n
 invariant-loop-n l = record {

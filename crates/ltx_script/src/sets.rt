@@ -1,10 +1,9 @@
-//! Pieces of a command's text: fixed words, and numbers, byte strings and sets of tables after a space. Each is
-//! appended to a text; where memory is wanting, the text keeps what it held and may have a front of the piece behind it.
+//! Sets of tables in a command's text. Each piece is appended; where memory is wanting, the text keeps what it held and
+//! may have a front of the piece behind it.
 
 ghost use Rattle.std.specs.Prelude.{◌≡◌, ◌++◌, ◌+◌, ◌-◌, ◌<◌, length, take, filter, OnOk, ◌∷◌, [], if◌then◌else◌};
 ghost use Rattle.std.specs.List.{range_with_len};
 ghost use Rattle.ltx_model.specs.Tables.{has_table};
-ghost use Rattle.ltx_text.specs.Words.{word_of};
 ghost use Rattle.ltx_text.specs.Decimals.{decimal_of};
 ghost use Rattle.ltx_script.specs.Commands.{commas, set_text};
 
@@ -12,34 +11,7 @@ use ltx_model::memory::NoMemory;
 use ltx_model::numbers::Table;
 use ltx_model::tables::TableSet;
 use ltx_text::decimals::put_decimal;
-use ltx_text::words::encode_word;
-
-/// Appends a fixed text.
-pub(crate) fn put_text(text: &[u8], out: &mut Vec<u8>) -> Result<(), NoMemory>
-    ensures ok { OnOk result (out.new.items ≡ out.old.items ++ text.now) }
-    ensures front { take (length out.old.items) out.new.items ≡ out.old.items }
-{
-    out.extend_from_slice(text)?;
-    Ok(())
-}
-
-/// Appends a space and a number.
-pub(crate) fn put_number(n: u64, out: &mut Vec<u8>) -> Result<(), NoMemory>
-    ensures ok { OnOk result (out.new.items ≡ out.old.items ++ 32 ∷ decimal_of n) }
-    ensures front { take (length out.old.items) out.new.items ≡ out.old.items }
-{
-    out.push(b' ')?;
-    put_decimal(n, out)
-}
-
-/// Appends a space and the word of a byte string.
-pub(crate) fn put_bytes(bytes: &[u8], out: &mut Vec<u8>) -> Result<(), NoMemory>
-    ensures ok { OnOk result (out.new.items ≡ out.old.items ++ 32 ∷ word_of bytes.now) }
-    ensures front { take (length out.old.items) out.new.items ≡ out.old.items }
-{
-    out.push(b' ')?;
-    encode_word(bytes, out)
-}
+use ltx_text::print::put_text;
 
 /// Appends a comma and a table that is in the set, and nothing for one that is not.
 fn put_member(set: TableSet, table: Table, out: &mut Vec<u8>) -> Result<(), NoMemory>
