@@ -2,7 +2,7 @@
 use Rattle.std.specs.Prelude.{◌≡◌, ℕ, ◌≤◌, Bool, true, false, not, ◌&&◌, ◌==◌, nat_le, List, [], ◌∷◌, ◌++◌, map, filter, filter_map, Option, Some, None, Contains, if◌then◌else◌}
 use Rattle.std.specs.List.{list_any}
 use Rattle.ltx_model.specs.Tables.{has_table}
-use Rattle.ltx_model.specs.States.{Declaration, Kind, IsShort, IsPending, IsLive, Active, State}
+use Rattle.ltx_model.specs.States.{Kind, IsShort, IsPending, IsLive, State}
 
 -- A batch that is entered: its number, the tables that it declared for writing, and whether it is live. A pending one holds nothing.
 pub record Holder : Type 0 where
