@@ -1,20 +1,20 @@
 -- Logs whose bytes and whose recovery are known, computed by the checker from the definitions.
-use Rattle.std.proofs.Common.{◌≡◌, ◌≢◌, ◌⊎◌, inl, inr, ℕ, ◌<◌, ◌≤◌, ◌+◌, ◌^◌, List, [], ◌∷◌, ◌++◌, refl, map, Some, None, take, drop, slice_get, arith, length}
+use Rattle.std.proofs.Common.{◌≡◌, inl, inr, ℕ, ◌<◌, ◌≤◌, ◌+◌, List, [], ◌∷◌, ◌++◌, refl, ap, Option, Some, None, take, drop, arith, length}
 use Rattle.std.proofs.lemmas.List.Elements.{All-cons, All-nil}
 use Rattle.ltx_model.specs.declared.rows.StoredRow.{StoredRow}
 use Rattle.ltx_model.specs.declared.writes.Write.{Write}
 use Rattle.ltx_model.specs.Limits.{IsKey, IsValue}
-use Rattle.ltx_model.specs.States.{Base, State, first_state}
+use Rattle.ltx_model.specs.States.{first_state}
 use Rattle.ltx_model.specs.Rows.{run, see}
 use Rattle.ltx_model.specs.Shorts.{first_change}
 use Rattle.ltx_model.specs.Batches.{target, first_late, first_contradicted}
-use Rattle.ltx_model.specs.Frames.{LogEvent, SlotEvent, ShortEvent, BatchEvent, Frame, sealed, body_length}
+use Rattle.ltx_model.specs.Frames.{SlotEvent, ShortEvent, BatchEvent, Frame, sealed, body_length}
 use Rattle.ltx_model.specs.Histories.{after, state_from}
 use Rattle.ltx_model.specs.Answers.{everything, answer, entries_from}
 use Rattle.ltx_model.specs.Logs.{frames_of}
 use Rattle.ltx_model.specs.Spellings.{body_bytes, IsWithin, AreWithin, IsFrame}
-use Rattle.ltx_model.specs.Contents.{IsLog, IsBlank, IsUnopened, Placed, StandsAt, LeadsTo, IsLogOf, IsClosedAt, log_bytes}
-use Rattle.ltx_model.specs.Recovery.{Unlawful, AreLawfulFrames, first_unlawful, IsFirstUnlawful, recovered, blank_base, IsRecovered}
+use Rattle.ltx_model.specs.Contents.{header, IsBlank, Placed, StandsAt, IsLogOf, log_bytes}
+use Rattle.ltx_model.specs.Recovery.{AreLawfulFrames, first_unlawful, IsFirstUnlawful, recovered, blank_base, IsRecovered}
 use Rattle.ltx_model.proofs.WorkedScripts.{blank, closed_epochs_become_durable, younger_is_forwarded}
 
 -- a put of a key of one byte
@@ -247,3 +247,71 @@ no_slot_first = record {
   earlier_lawful = tt;
   unlawful = λ lawful. let low : lawful.0.0.0 < 0 = lawful.0.0.1 in let no : ⊥ = omega arith in no;
 }
+
+-- nor is a commit of an epoch that the frame before has closed, a number that is there, or a target that is not before the slot
+epoch_was_closed : first_unlawful (first_placed ∷ record { at = 62; frame = record { epoch = 2; events = ShortEvent 2 1 [] ∷ [] } } ∷ []) ≡ Some (record { at = 62; event = 0 })
+unfolding first_unlawful
+epoch_was_closed = refl
+
+slot_again : first_unlawful (record { at = 17; frame = record { epoch = 1; events = SlotEvent 1 ∷ SlotEvent 1 ∷ [] } } ∷ []) ≡ Some (record { at = 17; event = 1 })
+unfolding first_unlawful
+slot_again = refl
+
+number_again : first_unlawful (record { at = 17; frame = record { epoch = 1; events = ShortEvent 1 1 [] ∷ ShortEvent 1 1 [] ∷ [] } } ∷ []) ≡ Some (record { at = 17; event = 1 })
+unfolding first_unlawful
+number_again = refl
+
+target_behind : first_unlawful (record { at = 17; frame = record { epoch = 1; events = SlotEvent 1 ∷ SlotEvent 2 ∷ BatchEvent 1 1 (Some 2) [] ∷ [] } } ∷ []) ≡ Some (record { at = 17; event = 2 })
+unfolding first_unlawful
+target_behind = refl
+
+target_itself : first_unlawful (record { at = 17; frame = record { epoch = 1; events = SlotEvent 1 ∷ BatchEvent 1 1 (Some 1) [] ∷ [] } } ∷ []) ≡ Some (record { at = 17; event = 1 })
+unfolding first_unlawful
+target_itself = refl
+
+committed_again : first_unlawful (record { at = 17; frame = record { epoch = 1; events = SlotEvent 1 ∷ BatchEvent 1 1 None [] ∷ BatchEvent 1 1 None [] ∷ [] } } ∷ []) ≡ Some (record { at = 17; event = 2 })
+unfolding first_unlawful
+committed_again = refl
+
+-- frames whose bounds or orders fail
+epochs_fall : IsFrame (record { epoch = 2; events = ShortEvent 1 2 [] ∷ ShortEvent 2 1 [] ∷ [] }) → ⊥
+epochs_fall f = let h : 2 ≤ 1 = f.rising.0.0 in let no : ⊥ = omega (arith, h) in no
+
+epoch_past_the_frame : IsFrame (record { epoch = 1; events = ShortEvent 1 2 [] ∷ [] }) → ⊥
+epoch_past_the_frame f = let h : 2 ≤ 1 = f.closed.0 in let no : ⊥ = omega (arith, h) in no
+
+epoch_past_the_last : IsFrame (record { epoch = 4294967294; events = [] }) → ⊥
+epoch_past_the_last f = let h : 4294967294 ≤ 4294967293 = f.epoch.1 in let no : ⊥ = omega (arith, h) in no
+
+epoch_nought : IsFrame (record { epoch = 0; events = [] }) → ⊥
+epoch_nought f = let h : 0 < 0 = f.epoch.0 in let no : ⊥ = omega (arith, h) in no
+
+-- a frame stands behind none of its own epoch, and ends within the limit
+not_above : StandsAt two_frames 17 1 first_frame → ⊥
+not_above stands = let h : 1 + 1 ≤ 1 = stands.above in let no : ⊥ = omega (arith, h) in no
+
+past_the_limit : (content : List ℕ) (f : Frame) → StandsAt content 1099511627767 0 f → ⊥
+past_the_limit content f stands = let h : 1099511627767 + 9 + length stands.body + 1 ≤ 1099511627776 = stands.within in let no : ⊥ = omega (arith, h) in no
+
+-- what is blank: nothing, a first byte of 0, and a header that was not opened
+nothing_is_blank : IsBlank []
+nothing_is_blank = inl (let h : 0 ≤ 1 = omega arith in h)
+
+closed_is_blank : IsBlank (0 ∷ 5 ∷ [])
+closed_is_blank = inr (inl ((let h : 2 ≤ 18 = omega arith in h), refl))
+
+abbrev byte_in : Option ℕ → ℕ
+byte_in None = 0
+byte_in (Some b) = b
+
+unopened_is_blank : IsBlank (7 ∷ header ++ 0 ∷ [])
+unopened_is_blank = inr (inr (record { long = refl; header_is = refl; gate = refl; shut = λ e. let same : 7 ≡ 1 = ap byte_in e in let no : ⊥ = omega (arith, same) in no }))
+
+-- an empty log: its header alone, with an open gate
+empty_log_spelt : log_bytes [] ≡ 1 ∷ header ++ 0 ∷ []
+unfolding log_bytes
+empty_log_spelt = refl
+
+empty_log_recovered : recovered [] 17 ≡ blank_base
+unfolding recovered
+empty_log_recovered = refl

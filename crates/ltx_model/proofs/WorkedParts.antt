@@ -1,35 +1,32 @@
 -- What is read off known scripts: marks, holders, places, decisions, last writes, records and what pruning forgets, computed by the checker.
-use Rattle.std.proofs.Common.{◌≡◌, ℕ, ◌==◌, Bool, true, false, List, [], ◌∷◌, refl, sym, ap, map, Option, Some, None, option_map}
+use Rattle.std.proofs.Common.{◌≡◌, ℕ, ◌==◌, true, false, [], ◌∷◌, refl, sym, ap, map, Option, Some, None, option_map}
 use Rattle.std.specs.List.{find}
 use Rattle.ltx_model.specs.declared.commands.Op.TheVariants.{Del}
-use Rattle.ltx_model.specs.declared.commands.Line.{Line}
 use Rattle.ltx_model.specs.declared.looked.Noted.{Noted}
 use Rattle.ltx_model.specs.declared.looked.Reach.TheVariants.{Nothing, Point, Range}
 use Rattle.ltx_model.specs.declared.replies.Reply.TheVariants.{Done}
-use Rattle.ltx_model.specs.declared.writes.Look.{Look}
-use Rattle.ltx_model.specs.declared.writes.Target.{Target}
 use Rattle.ltx_model.specs.declared.writes.Target.TheVariants as targets
 use Rattle.ltx_model.specs.declared.writes.Write.{Write}
 use Rattle.ltx_model.specs.Keys.{Cell}
 use Rattle.ltx_model.specs.Operations.{Transaction}
 use Rattle.ltx_model.specs.LastWrites.{LastWrite, last_write}
 use Rattle.ltx_model.specs.Rows.{run, see}
-use Rattle.ltx_model.specs.States.{Step, State, LiveBatch, live_batches, active_of, latest}
-use Rattle.ltx_model.specs.Frames.{LogEvent, ShortEvent, sealed, body_length, unsealed}
+use Rattle.ltx_model.specs.States.{State, LiveBatch, live_batches, active_of, latest}
+use Rattle.ltx_model.specs.Frames.{ShortEvent, sealed, body_length, unsealed}
 use Rattle.ltx_model.specs.Histories.{after, state_from}
 use Rattle.ltx_model.specs.Listings.{numbers_of, list_from, is_member, without, insert_before, place_of}
 use Rattle.ltx_model.specs.Marks.{newest_mark, mark_of_slot, number_of_commit}
-use Rattle.ltx_model.specs.Shorts.{Held, holder, first_change}
-use Rattle.ltx_model.specs.Holders.{Holder, entered, gone_live, removed, holders_of, is_entered, least_holder}
-use Rattle.ltx_model.specs.Verdicts.{Verdict, Passes, RefusedAsHeld, RefusedAsChanged, verdict}
-use Rattle.ltx_model.specs.Notes.{IsPointBy, IsLastLook, note_looks_up, note_writes}
+use Rattle.ltx_model.specs.Shorts.{holder, first_change}
+use Rattle.ltx_model.specs.Holders.{entered, gone_live, removed, holders_of, is_entered, least_holder}
+use Rattle.ltx_model.specs.Verdicts.{Passes, RefusedAsHeld, RefusedAsChanged, verdict}
+use Rattle.ltx_model.specs.Notes.{IsPointBy, IsLastLook, note_writes}
 use Rattle.ltx_model.specs.Batches.{ByLate, ByContradicts, target, first_late, first_contradicted}
-use Rattle.ltx_model.specs.Records.{Records, Recorded, recorded, forgotten, is_kept, mark_kept, covering, writers}
-use Rattle.ltx_model.specs.Decisions.{Decision, CommitAt, WaitFor, RefuseAt, decision, place, overtaken, lives_of, IsAskedLook, is_installed}
+use Rattle.ltx_model.specs.Records.{Records, recorded, forgotten, is_kept, mark_kept, covering, writers}
+use Rattle.ltx_model.specs.Decisions.{CommitAt, WaitFor, RefuseAt, decision, place, overtaken, lives_of, IsAskedLook, is_installed}
 use Rattle.ltx_model.specs.Pruning.{live_marks, prune_mark, below}
 use Rattle.ltx_model.specs.Answers.{answer, entries_from}
-use Rattle.ltx_model.specs.Disks.{Images, Crashes, is_written, only, wrote, synced, moment}
-use Rattle.ltx_model.proofs.WorkedScripts.{state_after, lost_update_is_refused, preserve_is_met_at_commit, skew_of_batches_is_refused, younger_is_forwarded, late_read_is_refused, forwarded_write_stays_under, closed_epochs_become_durable, deletion_keeps_its_witness}
+use Rattle.ltx_model.specs.Disks.{Crashes, is_written, only, wrote, synced, moment}
+use Rattle.ltx_model.proofs.WorkedScripts.{state_after, lost_update_is_refused, preserve_is_met_at_commit, skew_of_batches_is_refused, younger_is_forwarded, late_read_is_refused, closed_epochs_become_durable, deletion_keeps_its_witness}
 
 abbrev cell : ℕ → ℕ → Cell
 cell table key = record { table = table; key = key ∷ [] }
@@ -306,11 +303,11 @@ members = refl
 abbrev crashes_at_first : Crashes
 crashes_at_first = record { now = only (1 ∷ 2 ∷ []); past = [] }
 
-written_ranges : map (is_written ((1 , 2) ∷ [])) (0 ∷ 1 ∷ 2 ∷ 3 ∷ []) ≡ false ∷ true ∷ true ∷ false ∷ []
+written_ranges : map (is_written ((1, 2) ∷ [])) (0 ∷ 1 ∷ 2 ∷ 3 ∷ []) ≡ false ∷ true ∷ true ∷ false ∷ []
 unfolding entries_from answer after state_from run see first_change target first_late first_contradicted sealed body_length last_write
 written_ranges = refl
 
-written_is_free : (wrote 1 2 crashes_at_first).now ≡ record { fixed = 1 ∷ 2 ∷ []; written = (1 , 2) ∷ []; longest = 3 }
+written_is_free : (wrote 1 2 crashes_at_first).now ≡ record { fixed = 1 ∷ 2 ∷ []; written = (1, 2) ∷ []; longest = 3 }
 unfolding entries_from answer after state_from run see first_change target first_late first_contradicted sealed body_length last_write
 written_is_free = refl
 

@@ -1,10 +1,8 @@
 -- What is decided of the commit of a live batch, and what the decision asks for.
 use Rattle.std.specs.Prelude.{◌≡◌, ℕ, ◌<◌, nat_lt, Bool, true, false, not, ◌&&◌, ◌==◌, List, map, filter, Option, Some, None, Contains}
-use Rattle.std.specs.List.{list_any}
 use Rattle.ltx_model.specs.declared.looked.Noted.{Noted}
 use Rattle.ltx_model.specs.declared.replies.Reply.{Reply}
 use Rattle.ltx_model.specs.declared.replies.Reply.TheVariants as replies
-use Rattle.ltx_model.specs.declared.rows.StoredRow.{StoredRow}
 use Rattle.ltx_model.specs.declared.writes.Look.{Look}
 use Rattle.ltx_model.specs.declared.writes.Target.{Target}
 use Rattle.ltx_model.specs.declared.writes.Target.TheVariants as targets
@@ -14,7 +12,7 @@ use Rattle.ltx_model.specs.Keys.{Cell}
 use Rattle.ltx_model.specs.Operations.{writes_of}
 use Rattle.ltx_model.specs.LastWrites.{LastWrite, last_write}
 use Rattle.ltx_model.specs.Agenda.{number_of, has_slot, commits_after}
-use Rattle.ltx_model.specs.States.{Kind, IsLive, Active, State, LiveBatch, transaction_of, live_batches}
+use Rattle.ltx_model.specs.States.{IsLive, Active, State, LiveBatch, transaction_of, live_batches}
 use Rattle.ltx_model.specs.Listings.{is_member, numbers_of}
 use Rattle.ltx_model.specs.Marks.{IsMarkOfSlot, IsNumberOfCommit}
 use Rattle.ltx_model.specs.Notes.{AreNotesBy}

@@ -3,7 +3,7 @@ use Rattle.std.specs.Prelude.{◌≡◌, ℕ, ◌≤◌, Bool, true, false, ◌&
 use Rattle.std.specs.List.{list_any}
 use Rattle.ltx_model.specs.Lists.{change_first, without_first}
 use Rattle.ltx_model.specs.Tables.{has_table}
-use Rattle.ltx_model.specs.States.{Declaration, Kind, IsShort, IsPending, IsLive, Active, State}
+use Rattle.ltx_model.specs.States.{Kind, IsShort, IsPending, IsLive, State}
 
 -- A batch that is entered: its number, the tables that it declared for writing, and whether it is live. A pending one holds nothing.
 pub record Holder : Type 0 where
