@@ -1,6 +1,9 @@
 -- Logs whose bytes and whose recovery are known, computed by the checker from the definitions.
-use Rattle.std.proofs.Common.{◌≡◌, inl, inr, ℕ, ◌<◌, ◌≤◌, ◌+◌, List, [], ◌∷◌, ◌++◌, refl, ap, Option, Some, None, take, drop, arith, length}
+use Rattle.std.proofs.Common.{◌≡◌, inl, inr, ℕ, ◌<◌, ◌≤◌, ◌+◌, ◌^◌, List, [], ◌∷◌, ◌++◌, refl, ap, ◌∙◌, Option, Some, None, take, drop, arith, length}
+use Rattle.std.proofs.lemmas.List.{length-append}
 use Rattle.std.proofs.lemmas.List.Elements.{All-cons, All-nil}
+use Rattle.std.proofs.lemmas.Nat.{from_be_bytes-to_be_bytes_8}
+use Rattle.std.specs.Int.{to_be_bytes, from_be_bytes, w64}
 use Rattle.ltx_model.specs.declared.rows.StoredRow.{StoredRow}
 use Rattle.ltx_model.specs.declared.writes.Write.{Write}
 use Rattle.ltx_model.specs.Limits.{IsKey, IsValue}
@@ -13,8 +16,8 @@ use Rattle.ltx_model.specs.Histories.{after, state_from}
 use Rattle.ltx_model.specs.Answers.{everything, answer, entries_from}
 use Rattle.ltx_model.specs.Logs.{frames_of}
 use Rattle.ltx_model.specs.Spellings.{body_bytes, IsWithin, AreWithin, IsFrame}
-use Rattle.ltx_model.specs.Contents.{header, IsBlank, Placed, StandsAt, IsLogOf, log_bytes}
-use Rattle.ltx_model.specs.Recovery.{AreLawfulFrames, first_unlawful, IsFirstUnlawful, recovered, blank_base, IsRecovered}
+use Rattle.ltx_model.specs.Contents.{header, IsBlank, IsForeign, framed, IsLog, Placed, StandsAt, IsLogOf, IsFaultyAt, log_bytes}
+use Rattle.ltx_model.specs.Recovery.{AreLawfulFrames, first_unlawful, IsFirstUnlawful, IsUnlawfulAt, recovered, blank_base, IsRecovered}
 use Rattle.ltx_model.proofs.WorkedScripts.{blank, closed_epochs_become_durable, younger_is_forwarded}
 
 -- a put of a key of one byte
@@ -248,6 +251,9 @@ no_slot_first = record {
   unlawful = λ lawful. let low : lawful.0.0.0 < 0 = lawful.0.0.1 in let no : ⊥ = omega arith in no;
 }
 
+no_slot_unlawful_at : IsUnlawfulAt (log_bytes (no_slot ∷ [])) (record { at = 17; event = 0 })
+no_slot_unlawful_at = record { frames = no_slot_placed ∷ []; gate = 56; log = no_slot_read; first = no_slot_first }
+
 -- nor is a commit of an epoch that the frame before has closed, a number that is there, or a target that is not before the slot
 epoch_was_closed : first_unlawful (first_placed ∷ record { at = 62; frame = record { epoch = 2; events = ShortEvent 2 1 [] ∷ [] } } ∷ []) ≡ Some (record { at = 62; event = 0 })
 unfolding first_unlawful
@@ -315,3 +321,40 @@ empty_log_spelt = refl
 empty_log_recovered : recovered [] 17 ≡ blank_base
 unfolding recovered
 empty_log_recovered = refl
+
+-- an open gate over no frame: behind it a length of 36 and ten bytes of 0
+abbrev torn : List ℕ
+torn = 1 ∷ header ++ 1 ∷ 0 ∷ 0 ∷ 0 ∷ 0 ∷ 0 ∷ 0 ∷ 0 ∷ 36 ∷ 0 ∷ 0 ∷ 0 ∷ 0 ∷ 0 ∷ 0 ∷ 0 ∷ 0 ∷ 0 ∷ 0 ∷ []
+
+torn_is_faulty : IsFaultyAt torn 17
+torn_is_faulty = record {
+  log = record { long = omega arith; open_gate = refl; header_is = refl };
+  frames = [];
+  frames_are = refl;
+  open_gate = refl;
+  none = λ f stands. too_short stands.body stands.gate stands.rest stands.bytes;
+} where
+  too_short : (body : List ℕ) (gate : ℕ) (rest : List ℕ) → drop 18 torn ≡ framed body ++ gate ∷ rest → ⊥
+  too_short body gate rest e =
+      let size : 18 ≡ length (framed body ++ gate ∷ rest) = ap length e in
+      let whole : length (framed body ++ gate ∷ rest) ≡ length (framed body) + length (gate ∷ rest) = length-append (framed body) (gate ∷ rest) in
+      let inner : length (framed body) ≡ 8 + length body = length-append (to_be_bytes w64 (length body)) body in
+      let least : length body ≤ 10 = omega (arith, size, whole, inner) in
+      let is : from_be_bytes w64 (to_be_bytes w64 (length body)) ≡ length body = from_be_bytes-to_be_bytes_8 (length body) (let h : length body < 2 ^ 64 = omega (arith, least) in h) in
+      let front : take 8 (drop 18 torn) ≡ to_be_bytes w64 (length body) = ap (take 8) e in
+      let worth : 36 ≡ length body = ap (from_be_bytes w64) front ∙ is in
+      let no : ⊥ = omega (arith, least, worth) in no
+
+-- neither blank nor a log: six bytes of text
+abbrev hello : List ℕ
+hello = 104 ∷ 101 ∷ 108 ∷ 108 ∷ 111 ∷ 10 ∷ []
+
+hello_is_foreign : IsForeign hello
+hello_is_foreign = (not_blank, not_log) where
+  not_blank : IsBlank hello → ⊥
+  not_blank (inl short) = let no : ⊥ = omega (arith, short) in no
+  not_blank (inr (inl (long, zero_first))) = let same : 104 ≡ 0 = ap byte_in zero_first in let no : ⊥ = omega (arith, same) in no
+  not_blank (inr (inr unopened)) = let same : 6 ≡ 18 = unopened.long in let no : ⊥ = omega (arith, same) in no
+
+  not_log : IsLog hello → ⊥
+  not_log log = let h : 18 ≤ 6 = log.long in let no : ⊥ = omega (arith, h) in no

@@ -17,7 +17,7 @@ use Rattle.ltx_model.specs.Histories.{after, state_from}
 use Rattle.ltx_model.specs.Listings.{numbers_of, list_from, is_member, without, insert_before, place_of}
 use Rattle.ltx_model.specs.Marks.{newest_mark, mark_of_slot, number_of_commit}
 use Rattle.ltx_model.specs.Shorts.{holder, first_change}
-use Rattle.ltx_model.specs.Holders.{entered, gone_live, removed, holders_of, is_entered, least_holder}
+use Rattle.ltx_model.specs.Holders.{entered, gone_live, removed, holders_of, is_entered, least_holder, pending_count}
 use Rattle.ltx_model.specs.Verdicts.{Passes, RefusedAsHeld, RefusedAsChanged, verdict}
 use Rattle.ltx_model.specs.Notes.{IsPointBy, IsLastLook, note_writes}
 use Rattle.ltx_model.specs.Batches.{ByLate, ByContradicts, target, first_late, first_contradicted}
@@ -67,6 +67,14 @@ lives_in_slots = refl
 holders_pending : holders_of (state_after 2 younger_is_forwarded) ≡ record { number = 1; tables = 1; live = false } ∷ record { number = 2; tables = 2; live = false } ∷ []
 unfolding entries_from answer after state_from run see first_change target first_late first_contradicted sealed body_length last_write
 holders_pending = refl
+
+pending_are_counted : pending_count (state_after 2 younger_is_forwarded) ≡ 2
+unfolding entries_from answer after state_from run see first_change target first_late first_contradicted sealed body_length last_write
+pending_are_counted = refl
+
+live_are_not_pending : pending_count (state_after 7 younger_is_forwarded) ≡ 0
+unfolding entries_from answer after state_from run see first_change target first_late first_contradicted sealed body_length last_write
+live_are_not_pending = refl
 
 pending_hold_nothing : least_holder (holders_of (state_after 2 younger_is_forwarded)) 0 ≡ None
 unfolding entries_from answer after state_from run see first_change target first_late first_contradicted sealed body_length last_write

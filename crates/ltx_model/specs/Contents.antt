@@ -42,6 +42,10 @@ pub record IsUnopened (content : List ℕ) : Type 0 where
 abbrev pub IsBlank : List ℕ → Type 0
 IsBlank content = (length content ≤ 1) ⊎ ((length content ≤ 18) × (slice_get content 0 ≡ Some 0)) ⊎ IsUnopened content
 
+-- neither blank nor a log
+abbrev pub IsForeign : List ℕ → Type 0
+IsForeign content = (IsBlank content → ⊥) × (IsLog content → ⊥)
+
 -- a frame and the place of its gate
 pub record Placed : Type 0 where
   pub at : ℕ

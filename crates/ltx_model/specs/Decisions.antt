@@ -1,5 +1,6 @@
 -- What is decided of the commit of a live batch, and what the decision asks for.
 use Rattle.std.specs.Prelude.{◌≡◌, ℕ, ◌<◌, nat_lt, Bool, true, false, not, ◌&&◌, ◌==◌, List, map, filter, Option, Some, None, Contains}
+use Rattle.std.specs.List.{AllByRecursion}
 use Rattle.ltx_model.specs.declared.looked.Noted.{Noted}
 use Rattle.ltx_model.specs.declared.replies.Reply.{Reply}
 use Rattle.ltx_model.specs.declared.replies.Reply.TheVariants as replies
@@ -11,7 +12,7 @@ use Rattle.ltx_model.specs.Lists.{IsPairwise, numbered, before_first}
 use Rattle.ltx_model.specs.Keys.{Cell}
 use Rattle.ltx_model.specs.Operations.{writes_of}
 use Rattle.ltx_model.specs.LastWrites.{LastWrite, last_write}
-use Rattle.ltx_model.specs.Agenda.{number_of, has_slot, commits_after}
+use Rattle.ltx_model.specs.Agenda.{LiveSlot, number_of, has_slot, commits_after}
 use Rattle.ltx_model.specs.States.{IsLive, Active, State, LiveBatch, transaction_of, live_batches}
 use Rattle.ltx_model.specs.Listings.{is_member, numbers_of}
 use Rattle.ltx_model.specs.Marks.{IsMarkOfSlot, IsNumberOfCommit}
@@ -125,17 +126,18 @@ pub record IsDecidable (s : State) (i : LiveBatch) (notes : List Noted) (mark : 
   pub marked : IsMarkOfSlot s.moves i.tx.number mark
   -- of each key that it wrote the last write, in order of table and key
   pub written : writes ≡ writes_of (batch_operations i)
-  -- among the commits of batches those after its snapshot are the ones above its mark
-  pub alike : (j number : ℕ) → has_slot s.moves j ≡ true → IsNumberOfCommit s.moves j number → commits_after s.moves i.tx.number j ≡ nat_lt mark number
+  -- of what is committed the batches that committed after its slot are those with a slot whose number is above its mark
+  pub alike : (j number : ℕ) → IsNumberOfCommit s.moves j number → commits_after s.moves i.tx.number j ≡ (has_slot s.moves j && nat_lt mark number)
   -- all live batches, this one included, in the order of their numbers
   pub live : lives ≡ lives_of s
   pub rising : IsPairwise (λ a b. a.number < b.number) lives
-  -- every commit was noted; each committed member from the floor on is kept with all its look-ups and writes, and no others are told
+  -- every commit was noted; each committed member from the floor on is kept with all its look-ups and writes, and nothing else is told of those kept
   pub recorded : AreRecordsOf s records
-  -- the members of the agenda, in order, each once; every live batch is one
+  -- the members of the agenda, in order, each once; every live batch stands there in its slot, and no writer of the base's rows is one
   pub listed : agenda ≡ numbers_of s
   pub distinct : IsDistinct agenda
-  pub members : (b : LiveBatch) → Contains (live_batches s) b → is_member agenda b.tx.number ≡ true
+  pub slots : (b : LiveBatch) → Contains (live_batches s) b → Contains s.agenda (LiveSlot b.tx.number)
+  pub strangers : AllByRecursion (λ row. is_member agenda row.writer ≡ false) s.base
 
 -- the number v is in the list, and n stands before it
 abbrev pub stands_before : List ℕ → ℕ → ℕ → Bool

@@ -64,7 +64,7 @@ pub record Leaves (P : List ℕ → Type 0) (old new : Crashes) : Type 0 where
   pub since : All (EachImage P) more
   pub now : EachImage P new.now
 
--- Any bytes in the range and past the old end, and the same elsewhere: what a failed write leaves of a content.
+-- What a failed write leaves of a content: any bytes in its range, by which it may have grown, and the same elsewhere.
 pub record Torn (at count : ℕ) (old new : List ℕ) : Type 0 where
   pub before : take at new ≡ take at old
   pub behind : drop (at + count) new ≡ drop (at + count) old

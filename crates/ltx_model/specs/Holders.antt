@@ -1,5 +1,5 @@
 -- Who holds a table: the batches that are entered with the tables that they declared for writing, pending or live.
-use Rattle.std.specs.Prelude.{◌≡◌, ℕ, ◌≤◌, Bool, true, false, ◌&&◌, ◌==◌, nat_le, List, [], ◌∷◌, ◌++◌, map, filter, filter_map, Option, Some, None, Contains, if◌then◌else◌}
+use Rattle.std.specs.Prelude.{◌≡◌, ℕ, ◌≤◌, Bool, true, false, not, ◌&&◌, ◌==◌, nat_le, List, [], ◌∷◌, ◌++◌, length, map, filter, filter_map, Option, Some, None, Contains, if◌then◌else◌}
 use Rattle.std.specs.List.{list_any}
 use Rattle.ltx_model.specs.Lists.{change_first, without_first}
 use Rattle.ltx_model.specs.Tables.{has_table}
@@ -74,6 +74,10 @@ holder_of (IsLive d snapshot) n = Some (record { number = n; tables = d.writes; 
 -- the pending and live batches of a state, in the order of their numbers
 abbrev pub holders_of : State → List Holder
 holders_of s = filter_map (λ o. holder_of o.kind o.number) s.active
+
+-- how many batches are pending: so many become live at the next epoch
+abbrev pub pending_count : State → ℕ
+pending_count s = length (filter (λ h. not h.live) (holders_of s))
 
 -- the least live batch that holds the table, or none where nobody holds it, as a relation
 abbrev pub IsHeldBy : List Holder → ℕ → Option ℕ → Type 0

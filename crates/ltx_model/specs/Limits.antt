@@ -70,12 +70,14 @@ pub record IsValue (value : List ℕ) : Type 0 where
   pub short : length value ≤ value_limit
   pub bytes : AreBytes value
 
--- a number of a transaction, of a table, and of an epoch or an operation
+-- a number of a transaction
 abbrev pub IsTx : ℕ → Type 0
 IsTx n = (0 < n) × (n ≤ last_number)
 
+-- a number of a table
 abbrev pub IsTable : ℕ → Type 0
 IsTable n = n < table_count
 
+-- a number of an epoch or of an operation
 abbrev pub IsCount : ℕ → Type 0
 IsCount n = n < count_limit

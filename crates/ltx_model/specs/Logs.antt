@@ -11,6 +11,7 @@ abbrev pub frames_from : State → List Entry → List Frame
 frames_from s [] = []
 frames_from s (entry ∷ entries) = if nat_lt s.durable (after s entry).durable then sealed s ∷ frames_from (after s entry) entries else frames_from (after s entry) entries
 
+-- the frames that a history writes
 abbrev pub frames_of : Base → List Entry → List Frame
 frames_of base history = frames_from (first_state base) history
 

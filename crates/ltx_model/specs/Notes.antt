@@ -87,16 +87,19 @@ AreNotesBy tells [] [] = Unit {0}
 AreNotesBy tells (o ∷ os) (note ∷ notes) = IsNoteBy (tells o.item) (map (λ b. b.op) o.earlier) o.item.op note × AreNotesBy tells os notes
 AreNotesBy tells os notes = ⊥
 
--- the same with looks that tell the writers of rows
+-- what is noted of a range with looks that tell the writers of rows
 abbrev pub IsRange : List StoredRow → List Op → ℕ → List ℕ → List ℕ → List Look → List (List ℕ) → Type 0
 IsRange rows earlier table low high looks own = IsRangeBy (IsLook rows) earlier table low high looks own
 
+-- what is noted of a key that was got, with such a look
 abbrev pub IsPoint : List StoredRow → List Op → Cell → Option Look → Bool → Type 0
 IsPoint rows earlier cell look own = IsPointBy (IsLook rows) earlier cell look own
 
+-- what an operation reached, with such looks
 abbrev pub IsReach : List StoredRow → List Op → Op → Reach → Type 0
 IsReach rows earlier op reach = IsReachBy (IsLook rows) earlier op reach
 
+-- the note of an operation, with such looks
 abbrev pub IsNote : List StoredRow → List Op → Op → Noted → Type 0
 IsNote rows earlier op note = IsNoteBy (IsLook rows) earlier op note
 

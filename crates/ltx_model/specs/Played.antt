@@ -12,10 +12,12 @@ pub data Played : Type 0 where
   PlayedSlot : ℕ → Played
   PlayedCommit : ℕ → List Write → Played
 
+-- the number of a member
 abbrev pub number_played : Played → ℕ
 number_played (PlayedSlot n) = n
 number_played (PlayedCommit n writes) = n
 
+-- the member has this number
 abbrev pub is_played : ℕ → Played → Bool
 is_played n p = number_played p == n
 
@@ -52,6 +54,7 @@ after_events ps (e ∷ es) = after_events (after_event ps e) es
 abbrev pub played_list : List LogEvent → List Played
 played_list events = after_events [] events
 
+-- the number of a committed member
 abbrev pub committed_number : Played → Option ℕ
 committed_number (PlayedSlot n) = None
 committed_number (PlayedCommit n writes) = Some n

@@ -76,20 +76,28 @@ pub record IsNextWritten (records : Records) (table : ℕ) (from : List ℕ) (st
 abbrev pub HasNoNextWritten : Records → ℕ → List ℕ → Bool → Type 0
 HasNoNextWritten records table from strict = (key : List ℕ) → reaches from strict key ≡ true → list_any (has_written (record { table = table; key = key })) records.kept ≡ true → ⊥
 
--- The record is that of a committed member of the agenda: its look-ups and writes are the member's, each one and no others.
+-- The record is that of a committed member of the agenda, and each look-up and write that it names is one of that member.
 pub record IsRecordOf (s : State) (r : Recorded) : Type 0 where
   pub tx : Transaction
   pub member : Contains (serial s.agenda) tx
   pub number : tx.number ≡ r.number
   pub batch : has_slot s.moves r.number ≡ r.batch
   pub mark : IsNumberOfCommit s.moves r.number r.mark
-  pub looks : (cell : Cell) → looked_up cell r ≡ looks_up_key (operations tx) cell
-  pub writes : (cell : Cell) → has_written cell r ≡ writes_key (operations tx) cell
+  pub looks : (cell : Cell) → looked_up cell r ≡ true → looks_up_key (operations tx) cell ≡ true
+  pub writes : (cell : Cell) → has_written cell r ≡ true → writes_key (operations tx) cell ≡ true
 
--- The records of a state: every commit was noted, those that are kept are told as they are, in the order of commits, and each committed
--- member that is the floor or stands after it is kept.
+-- The transaction is kept with all its look-ups and writes.
+pub record IsKeptWhole (records : Records) (t : Transaction) : Type 0 where
+  pub entry : Recorded
+  pub kept : Contains records.kept entry
+  pub number : entry.number ≡ t.number
+  pub looks : (cell : Cell) → looks_up_key (operations t) cell ≡ true → looked_up cell entry ≡ true
+  pub writes : (cell : Cell) → writes_key (operations t) cell ≡ true → has_written cell entry ≡ true
+
+-- The records of a state: every commit was noted, what is told of those that are kept is so, in the order of commits, and each committed
+-- member that is the floor or stands after it is kept whole.
 pub record AreRecordsOf (s : State) (records : Records) : Type 0 where
   pub commits : records.commits ≡ newest_mark s
   pub told : AllByRecursion (IsRecordOf s) records.kept
   pub rising : IsPairwise (λ a b. a.mark < b.mark) records.kept
-  pub whole : (t : Transaction) → Contains (serial (from_floor s)) t → is_kept records t.number ≡ true
+  pub whole : (t : Transaction) → Contains (serial (from_floor s)) t → IsKeptWhole records t

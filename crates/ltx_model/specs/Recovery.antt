@@ -74,6 +74,13 @@ pub record IsFirstUnlawful (frames : List Placed) (u : Unlawful) : Type 0 where
   pub earlier_lawful : AreLawfulMoves (epoch_after 0 (frames_in front)) (played_list (events_in (frames_in front))) earlier
   pub unlawful : IsLawfulMove (epoch_after 0 (frames_in front)) (after_events (played_list (events_in (frames_in front))) earlier) event → ⊥
 
+-- The content is a log whose open gates all stand over frames, and this event of theirs is the first one that is not lawful.
+pub record IsUnlawfulAt (content : List ℕ) (u : Unlawful) : Type 0 where
+  pub frames : List Placed
+  pub gate : ℕ
+  pub log : IsLogOf content frames gate
+  pub first : IsFirstUnlawful frames u
+
 -- the number of an event
 abbrev pub number_of_event : LogEvent → ℕ
 number_of_event (SlotEvent n) = n

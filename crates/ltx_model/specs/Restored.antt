@@ -6,6 +6,7 @@ use Rattle.ltx_model.specs.Limits.{last_durable, last_number}
 use Rattle.ltx_model.specs.Keys.{IsRising}
 use Rattle.ltx_model.specs.StoredRows.{cell_of}
 
+-- rows, the durable epoch and the last number
 pub record Restored : Type 0 where
   pub rows : List StoredRow
   pub epoch : ℕ

@@ -17,6 +17,7 @@ has_later agenda t chain = list_any (λ v. is_member (part_before v.number agend
 abbrev pub install : Cell → List Member → List Transaction → Transaction → List Transaction
 install key agenda chain t = if writes_key (operations t) key && not (has_later agenda t chain) then chain ++ t ∷ [] else chain
 
+-- the versions of a key after a move, which commits a transaction or none
 abbrev pub install_if : Cell → List Member → List Transaction → Option Transaction → List Transaction
 install_if key agenda chain None = chain
 install_if key agenda chain (Some t) = install key agenda chain t
