@@ -1,6 +1,6 @@
 -- Marks: which batches are live by their moves, and that the mark of a slot divides the commits into its snapshot and the others.
 use Rattle.std.proofs.Common.{◌≡◌, ◌≢◌, ◌⊎◌, inl, inr, ℕ, suc, ◌<◌, ◌≤◌, Bool, true, false, cond, not, ◌||◌, ◌==◌, nat_lt, List, [], ◌∷◌, ◌++◌, length, Option, Some, None, option_map, refl, sym, ap, ◌∙◌, subst, append_assoc, append-nil, arith, Contains, IsPermutation}
-use Rattle.std.proofs.lemmas.Bool.{both_ways, eqb-true, eq-eqb, ne_eqb, lt-ltb, le-ltb, not-true}
+use Rattle.std.proofs.lemmas.Bool.{both_ways, eqb-true, eq-eqb, ne_eqb, lt-ltb, le-ltb, not-true, false_from_ne_true}
 use Rattle.std.proofs.lemmas.List.Sorted.{Contains-permutation, IsPermutation-sym}
 use Rattle.std.specs.List.{list_any, AllByRecursion}
 use Rattle.ltx_model.specs.declared.commands.Line.{Line}
@@ -10,14 +10,15 @@ use Rattle.ltx_model.specs.Agenda.{Member, LiveSlot, Committed, number_of, has_n
 use Rattle.ltx_model.specs.Marks.{mark_of_slot, place_in, number_of_commit, newest_mark}
 use Rattle.ltx_model.specs.States.{Kind, IsShort, IsPending, IsLive, Active, transaction_of, Base, IsSound, State, LiveBatch, as_live, live_batches}
 use Rattle.ltx_model.specs.Histories.{state}
+use Rattle.ltx_model.specs.Explained.{committed_in}
 use Rattle.ltx_model.specs.Answers.{IsLegalWith}
 use Rattle.ltx_lemmas.specs.Places.{AreApart}
-use Rattle.ltx_lemmas.proofs.Lists.{some_same, none_some, true_false, all_contains, all_from, any_contains, any_item, any_not_all, contains_back, contains_cases, contains_front, contains_here, contains_none, contains_parts, filter_item, given_append, given_here, given_item}
+use Rattle.ltx_lemmas.proofs.Lists.{some_same, none_some, true_false, all_contains, all_from, any_contains, any_item, any_not_all, contains_back, contains_cases, contains_front, contains_here, contains_later, contains_none, contains_parts, filter_item, given_append, given_here, given_item}
 use Rattle.ltx_lemmas.proofs.Members.{apart_one, before_member, member_push_old, member_push_new, member_home, member_without_other, member_insert_other, member_insert_new}
 use Rattle.ltx_lemmas.proofs.Serials.{serial_here, serial_member}
 use Rattle.ltx_laws.specs.Structure.{IsKnown, IsLiveBatch, StandsAs, Stands, is_live_as, if_live, Structure}
 use Rattle.ltx_laws.specs.Drops.{leaves, has_left, logged_agenda, IsLawful, AreLawful}
-use Rattle.ltx_laws.specs.Printed.{IsPrintedShort}
+use Rattle.ltx_laws.specs.Printed.{IsPrintedShort, IsPrintedBatch}
 use Rattle.ltx_laws.proofs.Agendas.{agenda_more, any_push_not}
 use Rattle.ltx_laws.proofs.Places.{before_apart}
 use Rattle.ltx_laws.proofs.Structures.{structure_of}
@@ -26,7 +27,8 @@ use Rattle.ltx_laws.proofs.DropsHistories.{timely_of}
 use Rattle.ltx_laws.proofs.CommitEpochs.{theirs_all}
 use Rattle.ltx_laws.proofs.LiveStates.{IsOpenBatch, open_batch}
 use Rattle.ltx_laws.proofs.Begins.{IsToldMove, begun_of}
-use Rattle.ltx_laws.proofs.PrintedCommits.{begun_once, slotted_printed}
+use Rattle.ltx_laws.proofs.Told.{commits_told}
+use Rattle.ltx_laws.proofs.PrintedCommits.{begun_once, slotted_printed, committed_batch_slotted}
 
 -- places among transactions
 place_none : (ts : List Transaction) (n : ℕ) → AllByRecursion (λ t. t.number ≢ n) ts → place_in ts n ≡ None
@@ -228,7 +230,7 @@ module _ (built : State → Line → Bool) (base : Base) (history : List Entry) 
         all_contains (λ (u : Active). u.number ≢ t.number) s.active opened.active
         (all_contains (IsKnown s.active s.moves) s.agenda (Committed t) inv.members.known (serial_member s.agenda t (commit_there t c))) opened.here (number ∙ sym same))
 
-    slot_here : Contains s.agenda (LiveSlot b.tx.number)
+    pub slot_here : Contains s.agenda (LiveSlot b.tx.number)
     slot_here = let found = any_item (has_number b.tx.number) s.agenda (subst (λ n. is_member s.agenda n ≡ true) number stands.member) in by_member found.0 found.1 (eqb-true (number_of found.0) b.tx.number found.2) where
       by_member : (m : Member) → Contains s.agenda m → number_of m ≡ b.tx.number → Contains s.agenda (LiveSlot b.tx.number)
       by_member (LiveSlot k) here same = subst (λ n. Contains s.agenda (LiveSlot n)) same here
@@ -287,6 +289,27 @@ module _ (built : State → Line → Bool) (base : Base) (history : List Entry) 
       by_case : Contains b.snapshot t ⊎ ((Contains front t → ⊥) × ((c : ℕ) → number_of_commit s.moves t.number ≡ Some c → length front < c)) → Contains b.snapshot t
       by_case (inl h) = h
       by_case (inr h) = let high : length front < c = h.1 c is in absurd (let none : ⊥ = omega arith in none)
+
+    -- what commits as a batch after the slot has a slot itself
+    pub after_slotted : (n : ℕ) → has_slot s.moves n ≡ false → commits_after s.moves b.tx.number n ≡ false
+    after_slotted n none = false_from_ne_true (commits_after s.moves b.tx.number n) (λ after. by_move (any_item (λ (m : Timed). commits_batch n m.move) (moves_since b.tx.number s.moves) after)) where
+      by_done : (m : Timed) (u : Transaction) → Contains s.moves m → commit_of m.move ≡ Some u → IsPrintedBatch history u.number → u.number ≡ n → ⊥
+      by_done m u at is told same =
+          let done : Contains (committed_in history) u = subst (λ l. Contains l u) (commits_told built base history legal) (given_here (λ (x : Timed). commit_of x.move) s.moves m u at is) in
+          true_false (sym (committed_batch_slotted built base history sound legal u done told) ∙ ap (has_slot s.moves) same ∙ none)
+
+      by_kind : (m : Timed) → Contains s.moves m → (v : Move) → m.move ≡ v → commits_batch n v ≡ true → IsToldMove history m.epoch v → ⊥
+      by_kind m at (Slot k) is e told = true_false (sym e)
+      by_kind m at (CommitShort u) is e told = true_false (sym e)
+      by_kind m at (CommitHome u) is e told = by_done m u at (ap commit_of is) told (eqb-true u.number n e)
+      by_kind m at (CommitBefore u p) is e told = by_done m u at (ap commit_of is) told (eqb-true u.number n e)
+      by_kind m at (Leave k) is e told = true_false (sym e)
+
+      by_move : (m : Timed) × Contains (moves_since b.tx.number s.moves) m × (commits_batch n m.move ≡ true) → ⊥
+      by_move (m, c, e) =
+          let rest : List Timed = moves_since b.tx.number s.moves in
+          let at : Contains s.moves m = subst (λ l. Contains l m) (sym between.parts) (contains_back (moves_until b.tx.number s.moves) (between.slot ∷ rest) m (contains_later between.slot rest m c)) in
+          by_kind m at m.move refl e (all_contains (λ (x : Timed). IsToldMove history x.epoch x.move) s.moves m (begun_of built base history legal).moves at)
 
     -- a batch commits after the slot exactly where its number is above the mark
     module _ (t : Transaction) (here : Contains (serial s.agenda) t) (batch : has_slot s.moves t.number ≡ true) where

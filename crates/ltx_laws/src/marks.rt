@@ -4,7 +4,7 @@ ghost use Rattle.std.specs.Prelude.{◌≡◌, ℕ, ◌≤◌, Bool, true, false
 ghost use Rattle.ltx_model.specs.declared.commands.Line.{Line};
 ghost use Rattle.ltx_model.specs.declared.replies.Entry.{Entry};
 ghost use Rattle.ltx_model.specs.Operations.{Transaction};
-ghost use Rattle.ltx_model.specs.Agenda.{has_slot, commits_after, serial};
+ghost use Rattle.ltx_model.specs.Agenda.{LiveSlot, has_slot, commits_after, serial};
 ghost use Rattle.ltx_model.specs.States.{IsLive, Active, transaction_of, Base, IsSound, State, LiveBatch, live_batches};
 ghost use Rattle.ltx_model.specs.Marks.{mark_of_slot, number_of_commit, newest_mark};
 ghost use Rattle.ltx_model.specs.Histories.{state};
@@ -12,7 +12,7 @@ ghost use Rattle.ltx_model.specs.Answers.{IsLegalWith};
 ghost use Rattle.ltx_laws.specs.Drops.{has_left};
 
 /// A batch is live exactly where the moves have its slot, and neither a commit nor a drop of its number; and it is then an open
-/// transaction.
+/// transaction, which stands in the agenda in its slot.
 pub fn moves_tell_who_is_live()
     ensures given { (built : State → Line → Bool) (base : Base) (history : List Entry) → IsSound base
         → IsLegalWith built base history
@@ -24,6 +24,10 @@ pub fn moves_tell_who_is_live()
         → IsLegalWith built base history
         → (b : LiveBatch) → Contains (live_batches (state base history)) b
         → (o : Active) × Contains (state base history).active o × (o.kind ≡ IsLive b.declared b.snapshot) × (transaction_of o ≡ b.tx) }
+    ensures slot { (built : State → Line → Bool) (base : Base) (history : List Entry) → IsSound base
+        → IsLegalWith built base history
+        → (b : LiveBatch) → Contains (live_batches (state base history)) b
+        → Contains (state base history).agenda (LiveSlot b.tx.number) }
     ensures found { (built : State → Line → Bool) (base : Base) (history : List Entry) → IsSound base
         → IsLegalWith built base history
         → (n : ℕ) → has_slot (state base history).moves n ≡ true → number_of_commit (state base history).moves n ≡ None
@@ -32,7 +36,8 @@ pub fn moves_tell_who_is_live()
 {}
 
 /// Each committed transaction has the number of its commit. Of the committed ones, the snapshot of a live batch has exactly those whose
-/// number is at most the batch's mark; and a batch committed after its slot exactly where its number is above the mark.
+/// number is at most the batch's mark; and a batch committed after its slot exactly where its number is above the mark. Nothing else
+/// than what has a slot commits there as a batch does.
 pub fn marks_divide_the_commits()
     ensures counted { (built : State → Line → Bool) (base : Base) (history : List Entry) → IsSound base
         → IsLegalWith built base history
@@ -54,6 +59,11 @@ pub fn marks_divide_the_commits()
         → (k c : ℕ) → mark_of_slot (state base history).moves b.tx.number ≡ Some k
         → (t : Transaction) → Contains (serial (state base history).agenda) t
         → number_of_commit (state base history).moves t.number ≡ Some c → c ≤ k → Contains b.snapshot t }
+    ensures shorts { (built : State → Line → Bool) (base : Base) (history : List Entry) → IsSound base
+        → IsLegalWith built base history
+        → (b : LiveBatch) → Contains (live_batches (state base history)) b
+        → (n : ℕ) → has_slot (state base history).moves n ≡ false
+        → commits_after (state base history).moves b.tx.number n ≡ false }
     ensures above { (built : State → Line → Bool) (base : Base) (history : List Entry) → IsSound base
         → IsLegalWith built base history
         → (b : LiveBatch) → Contains (live_batches (state base history)) b

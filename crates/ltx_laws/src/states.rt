@@ -1,6 +1,6 @@
 //! States: what a state keeps in every legal history, read off its open transactions, moves and agenda.
 
-ghost use Rattle.std.specs.Prelude.{◌≡◌, ℕ, ◌+◌, ◌<◌, Bool, true, List, [], map, Contains};
+ghost use Rattle.std.specs.Prelude.{◌≡◌, ℕ, ◌+◌, ◌<◌, Bool, true, false, List, [], map, Contains};
 ghost use Rattle.std.specs.List.{AllByRecursion};
 ghost use Rattle.ltx_model.specs.declared.commands.Line.{Line};
 ghost use Rattle.ltx_model.specs.declared.replies.Entry.{Entry};
@@ -65,6 +65,13 @@ pub fn moves_change_the_numbers_alike()
         → IsLegalWith built base history → numbers_of (state base history) ≡ list_from [] (state base history).moves }
     ensures distinct { (built : State → Line → Bool) (base : Base) (history : List Entry) → IsSound base
         → IsLegalWith built base history → IsDistinct (numbers_of (state base history)) }
+{}
+
+/// The writers of the base's rows are no members of the agenda: their numbers are those of earlier runs.
+pub fn base_writers_are_no_members()
+    ensures strangers { (built : State → Line → Bool) (base : Base) (history : List Entry) → IsSound base
+        → IsLegalWith built base history
+        → AllByRecursion (λ row. is_member (state base history).agenda row.writer ≡ false) base.rows }
 {}
 
 /// The snapshot of a live batch is the serial order that the moves before its slot give.

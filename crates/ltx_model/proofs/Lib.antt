@@ -1,5 +1,6 @@
 pub mod OneMore
 pub mod NoteMarks
+pub mod BodyLengths
 pub mod WorkedScripts
 pub mod WorkedLogs
 pub mod WorkedParts
