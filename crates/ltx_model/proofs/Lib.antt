@@ -1,6 +1,7 @@
 pub mod OneMore
 pub mod NoteMarks
 pub mod BodyLengths
+pub mod MarkPlaces
 pub mod WorkedScripts
 pub mod WorkedLogs
 pub mod WorkedParts
