@@ -109,7 +109,7 @@ module _ (last : ℕ) (earlier : List Played) (under : AllByRecursion (λ p. num
   lawful_behind (e ∷ es) above qs lawful =
       (lawful_event e above.0 qs lawful.0, subst (λ l. AreLawfulEvents l es) (sym (event_behind e above.0 qs)) (lawful_behind es above.1 (after_event qs e) lawful.1))
 
-rows_append : (rows : List StoredRow) (ps qs : List Played) → rows_after_played rows (ps ++ qs) ≡ rows_after_played (rows_after_played rows ps) qs
+pub rows_append : (rows : List StoredRow) (ps qs : List Played) → rows_after_played rows (ps ++ qs) ≡ rows_after_played (rows_after_played rows ps) qs
 rows_append rows [] qs = refl
 rows_append rows (PlayedSlot n ∷ ps) qs = rows_append rows ps qs
 rows_append rows (PlayedCommit n writes ∷ ps) qs = rows_append (rows_after_writes n rows writes) ps qs

@@ -1,6 +1,7 @@
 -- Each front of the frames that a history writes is what a front of the history writes.
 use Rattle.std.proofs.Common.{◌≡◌, ◌⊎◌, inl, inr, ◌+◌, ◌-◌, ◌<◌, ◌≤◌, Bool, true, false, cond, nat_lt, List, [], ◌∷◌, ◌++◌, map, refl, sym, ap, ◌∙◌, subst, arith}
 use Rattle.std.proofs.lemmas.Bool.{ltb-true, ltb-false}
+use Rattle.std.specs.List.{AllByRecursion}
 use Rattle.ltx_model.specs.declared.commands.Line.{Line}
 use Rattle.ltx_model.specs.declared.replies.Entry.{Entry}
 use Rattle.ltx_model.specs.Operations.{Transaction}
@@ -8,13 +9,14 @@ use Rattle.ltx_model.specs.States.{Base, IsSound, State, first_state, serial_thr
 use Rattle.ltx_model.specs.Histories.{after, state, state_from}
 use Rattle.ltx_model.specs.Frames.{Frame, sealed}
 use Rattle.ltx_model.specs.Logs.{frames_from, frames_of, events_in}
-use Rattle.ltx_model.specs.Played.{played_list, committed_numbers, rows_after_played}
+use Rattle.ltx_model.specs.Played.{Played, number_played, AreLawfulEvents, AreCommitsNew, after_events, played_list, committed_numbers, rows_after_played}
 use Rattle.ltx_model.specs.Answers.{IsLegalFrom, IsLegalWith}
 use Rattle.ltx_model.proofs.OneMore.{legal-parts}
 use Rattle.ltx_model.specs.Contents.{epoch_after}
 use Rattle.ltx_laws.proofs.Transitions.{entry_case}
 use Rattle.ltx_laws.proofs.DropsFrames.{Grows, grows_cases, stays_open}
-use Rattle.ltx_laws.proofs.LawfulFrames.{sealed_epoch}
+use Rattle.ltx_laws.proofs.LawfulFrames.{sealed_epoch, commits_new}
+use Rattle.ltx_laws.proofs.FollowingFrames.{list_follows, lawful_follows}
 use Rattle.ltx_laws.proofs.LaterFrames.{later_order_played, later_rows_played}
 
 -- a front of the history that writes these frames
@@ -103,3 +105,12 @@ module _ (built : State → Line → Bool) (base : Base) (history : List Entry) 
       ∙ later_rows_played built base written.first written.rest sound legal_there
       ∙ ap (rows_through (state base (written.first ++ written.rest))) epoch_there
       ∙ ap (λ l. rows_through (state base l) (epoch_after base.durable front)) (sym written.parts)
+
+  pub front_new : AreCommitsNew base.durable front
+  front_new = subst (AreCommitsNew base.durable) written.frames (commits_new built base written.first sound first_legal)
+
+  pub front_follows : (earlier : List Played) → AllByRecursion (λ p. number_played p ≤ base.last) earlier → after_events earlier (events_in front) ≡ earlier ++ played_list (events_in front)
+  front_follows earlier under = subst (λ fs. after_events earlier (events_in fs) ≡ earlier ++ played_list (events_in fs)) written.frames (list_follows built base written.first sound first_legal earlier under)
+
+  pub front_lawful : (earlier : List Played) → AllByRecursion (λ p. number_played p ≤ base.last) earlier → AreLawfulEvents earlier (events_in front)
+  front_lawful earlier under = subst (λ fs. AreLawfulEvents earlier (events_in fs)) written.frames (lawful_follows built base written.first sound first_legal earlier under)

@@ -71,6 +71,8 @@ pub mod FrameFronts
 pub mod Numbered
 pub mod NextBases
 pub mod NumberLists
+pub mod HolderStates
+pub mod EarlierFrames
 pub mod SlotMarks
 pub mod MoveCounts
 pub mod SealedFrames

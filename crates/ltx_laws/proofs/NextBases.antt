@@ -42,7 +42,7 @@ row_there (x ∷ xs) row rising c = by_case (contains_cases x xs row c) (row_the
       ap (λ b. cond b (Some x) (row_at xs (cell_of row))) other ∙ later d
 
 -- an event is at most the greatest
-greatest_of : (es : List LogEvent) (e : LogEvent) → Contains es e → number_of_event e ≤ greatest_number es
+pub greatest_of : (es : List LogEvent) (e : LogEvent) → Contains es e → number_of_event e ≤ greatest_number es
 greatest_of [] e c = absurd (contains_none e c)
 greatest_of (x ∷ es) e c = by_case (contains_cases x es e c) (greatest_of es e) where
   by_case : (x ≡ e) ⊎ Contains es e → (Contains es e → number_of_event e ≤ greatest_number es) → number_of_event e ≤ max (number_of_event x) (greatest_number es)

@@ -18,7 +18,7 @@ ghost use Rattle.ltx_laws.specs.Orders.{IsPrefix};
 ghost use Rattle.ltx_laws.specs.AskedLimits.{AreLinesWithin};
 ghost use Rattle.ltx_model.specs.Spellings.{IsFrame};
 ghost use Rattle.ltx_model.specs.Contents.{epoch_after};
-ghost use Rattle.ltx_model.specs.Recovery.{greatest_number};
+ghost use Rattle.ltx_model.specs.Recovery.{AreLawfulFrames, greatest_number, recovered};
 
 /// The moves of slots and commits, without those of batches that left, give the serial order when they are played on an empty
 /// list; and so do those of the epochs up to any one give the order through it.
@@ -142,6 +142,27 @@ pub fn fronts_of_frames_give_their_orders()
         → (front back : List Frame) → frames_of base history ≡ front ++ back
         → rows_after_played base.rows (played_list (events_in front))
         ≡ rows_through (state base history) (epoch_after base.durable front) }
+{}
+
+/// A log may begin with frames of earlier runs, which are lawful and give the base back. Behind them each front of the frames that the
+/// flushes of a history write is lawful; and the whole gives back the rows through the front's last epoch, this epoch, and the greatest
+/// number of any event.
+pub fn fronts_recover_behind_earlier_frames()
+    ensures lawful { (built : State → Line → Bool) (base : Base) (history : List Entry) → IsSound base
+        → IsLegalWith built base history
+        → (earlier : List Frame) → recovered earlier base.gate ≡ base
+        → (front back : List Frame) → frames_of base history ≡ front ++ back
+        → AreLawfulFrames 0 [] earlier → AreLawfulFrames 0 [] (earlier ++ front) }
+    ensures given { (built : State → Line → Bool) (base : Base) (history : List Entry) → IsSound base
+        → IsLegalWith built base history
+        → (earlier : List Frame) → recovered earlier base.gate ≡ base
+        → (front back : List Frame) → frames_of base history ≡ front ++ back
+        → (gate : ℕ) → recovered (earlier ++ front) gate ≡ record {
+          rows = rows_through (state base history) (epoch_after base.durable front);
+          durable = epoch_after base.durable front;
+          last = max base.last (greatest_number (events_in front));
+          gate = gate;
+        } }
 {}
 
 /// What the frames give back is a sound base: the rows through the durable epoch, this epoch, and the greatest number of any event,

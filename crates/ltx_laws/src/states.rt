@@ -8,6 +8,8 @@ ghost use Rattle.ltx_model.specs.Agenda.{Member, number_of, Move, Slot, agenda_a
 ghost use Rattle.ltx_model.specs.States.{Declaration, IsPending, Active, Base, IsSound, State, LiveBatch, live_batches};
 ghost use Rattle.ltx_model.specs.Histories.{state};
 ghost use Rattle.ltx_model.specs.Answers.{IsLegalWith};
+ghost use Rattle.ltx_model.specs.Shorts.{IsHeld};
+ghost use Rattle.ltx_model.specs.Holders.{IsLeastHolder, holders_of};
 ghost use Rattle.ltx_model.specs.Listings.{numbers_of, list_after, list_from};
 ghost use Rattle.ltx_model.specs.Explained.{IsDistinct, committed_in};
 ghost use Rattle.ltx_laws.specs.Areas.{IsInside};
@@ -20,6 +22,13 @@ ghost use Rattle.ltx_model.specs.Explained.{opens_from};
 pub fn open_transactions_stand_in_order()
     ensures order { (built : State → Line → Bool) (base : Base) (history : List Entry) → IsSound base
         → IsLegalWith built base history → AreOpen base (state base history).last (state base history).active }
+{}
+
+/// The least holder of a table, among the batches that are entered as the open transactions tell, is the least live batch that declared
+/// the table for writing.
+pub fn holders_are_the_live_batches()
+    ensures given { (s : State) (table n : ℕ) → IsLeastHolder (holders_of s) table n → IsHeld s table n }
+    ensures found { (s : State) (table n : ℕ) → IsHeld s table n → IsLeastHolder (holders_of s) table n }
 {}
 
 /// Live batches stand in the agenda in the order of their numbers.
