@@ -11,7 +11,8 @@ ghost use Rattle.ltx_index.specs.Pairs.{IsInOrder, value_at, with_value, with_pa
 ghost use Rattle.ltx_index.specs.Leaves.{AreLeaves, IsHome};
 ghost use Rattle.ltx_index.specs.contracts.index.Index.{the_row};
 
-use crate::leaf::{Leaf, falls_short};
+use crate::head::head;
+use crate::leaf::Leaf;
 use crate::walk::Walk;
 use ltx_model::bytes::Key;
 use std::alloc::Global;
@@ -166,8 +167,9 @@ fn home<V>(leaves: &[Leaf<V>], from: &[u8], strict: bool) -> usize
     requires { AreLeaves leaves.now }
     ensures { IsHome leaves.now from.now strict result }
 {
+    let of_from = head(from);
     leaves
-        .partition_point(|leaf| falls_short(leaf.first(), from, strict))
+        .partition_point(|leaf| leaf.begins_short(of_from, from, strict))
         .saturating_sub(1)
 }
 
