@@ -109,13 +109,13 @@ fn next_row<'l, L: Latest>(
     ensures { NextRow (L.rows latest.now) table high.now from.now strict (option_map (λ r. (r.0.now, r.1)) result) }
 {
     match latest.after(table, from, strict) {
-        Some((key, writer)) if is_below_end(key, high) => Some((key, writer)),
+        Some((key, writer)) if is_below(key, high) => Some((key, writer)),
         _ => None,
     }
 }
 
 // The key is below the upper end of a range, which is no bound where it is empty.
-fn is_below_end(key: &Key, high: &Bound) -> bool
+fn is_below(key: &Key, high: &Bound) -> bool
     ensures { result ≡ is_below_end high.now key.now }
 {
     high.bytes().is_empty() || compare_bytes(key.bytes(), high.bytes()).is_lt()
