@@ -168,7 +168,7 @@ impl<V> Leaf<V> {
     }
 }
 
-// Where the key is, or where it would go.
+/// Where the key is, or where it would go.
 fn place(keys: &[Key], key: &Key) -> Result<usize, usize>
     requires { IsStrictlySortedBy key_cmp keys.now }
     ensures found { IfOk result (IsFoundAt keys.now key.now) }
@@ -177,7 +177,7 @@ fn place(keys: &[Key], key: &Key) -> Result<usize, usize>
     keys.binary_search_by(|k| k.compare(key))
 }
 
-// Where the keys begin that reach the bound.
+/// Where the keys begin that reach the bound.
 fn start(keys: &[Key], from: &[u8], strict: bool) -> usize
     requires { IsStrictlySortedBy key_cmp keys.now }
     ensures { IsStartAt keys.now from.now strict result }
@@ -196,7 +196,7 @@ pub fn falls_short(key: &[u8], from: &[u8], strict: bool) -> bool
     }
 }
 
-// Puts the key and the value into the same place, or leaves both vectors for want of memory.
+/// Puts the key and the value into the same place, or leaves both vectors for want of memory.
 fn put_at<V>(
     keys: &mut Vec<Key>,
     values: &mut Vec<V>,
@@ -222,7 +222,7 @@ fn put_at<V>(
     Ok(())
 }
 
-// Takes what stands from the place on out of both vectors, or leaves both for want of memory.
+/// Takes what stands from the place on out of both vectors, or leaves both for want of memory.
 fn split_at<V>(
     keys: &mut Vec<Key>,
     values: &mut Vec<V>,
