@@ -14,7 +14,7 @@ pub(crate) fn head(bytes: &[u8]) -> u64
     }
 }
 
-// The head of fewer than eight bytes.
+/// The head of fewer than eight bytes.
 #[inline(never)]
 fn short_head(bytes: &[u8]) -> u64
     requires { length bytes.now < 8 }

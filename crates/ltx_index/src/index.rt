@@ -113,8 +113,8 @@ impl<V: Drop> Index<V> {
         }
     }
 
-    // Puts the pair into the key's leaf. Where that is full, and for want of memory, it hands the
-    // pair of a new key back.
+    /// Puts the pair into the key's leaf. Where that is full, and for want of memory, it hands the
+    /// pair of a new key back.
     fn put(&mut self, key: Key, value: V) -> Result<Option<V>, (Key, V)>
         ensures old { IfOk result (λ before. before ≡ value_at self.old key) }
         ensures put { IfOk result (λ _. self.new ≡ with_pair self.old key value) }
@@ -130,7 +130,7 @@ impl<V: Drop> Index<V> {
         }
     }
 
-    // Splits the key's leaf where it is full; the pairs stay as they are.
+    /// Splits the key's leaf where it is full; the pairs stay as they are.
     fn make_room(&mut self, key: &Key)
         ensures { self.new ≡ self.old }
     {
@@ -162,7 +162,7 @@ impl<V: Drop> Index<V> {
     }
 }
 
-// The leaf that holds the bound's place: the last one that begins short of it, or the first leaf.
+/// The leaf that holds the bound's place: the last one that begins short of it, or the first leaf.
 fn home<V>(leaves: &[Leaf<V>], from: &[u8], strict: bool) -> usize
     requires { AreLeaves leaves.now }
     ensures { IsHome leaves.now from.now strict result }
@@ -173,7 +173,7 @@ fn home<V>(leaves: &[Leaf<V>], from: &[u8], strict: bool) -> usize
         .saturating_sub(1)
 }
 
-// The leaves from a place on.
+/// The leaves from a place on.
 fn behind<V>(leaves: &[Leaf<V>], at: usize) -> &[Leaf<V>]
     ensures { result.now ≡ drop at leaves.now }
 {
@@ -184,7 +184,7 @@ fn behind<V>(leaves: &[Leaf<V>], at: usize) -> &[Leaf<V>]
     later
 }
 
-// Puts the leaf into its place, where there is room for it.
+/// Puts the leaf into its place, where there is room for it.
 fn insert_leaf<V: Drop>(leaves: &mut Vec<Leaf<V>>, at: usize, leaf: Leaf<V>)
     requires in_range { at ≤ vec_len leaves.old }
     requires room { vec_len leaves.old < vec_capacity leaves.old }
@@ -193,7 +193,7 @@ fn insert_leaf<V: Drop>(leaves: &mut Vec<Leaf<V>>, at: usize, leaf: Leaf<V>)
     let _ = leaves.insert(at, leaf);
 }
 
-// Puts the pair into a leaf of its own after all others.
+/// Puts the pair into a leaf of its own after all others.
 fn push_leaf<V: Drop>(
     alloc: Global,
     leaves: &mut Vec<Leaf<V>>,

@@ -155,7 +155,7 @@ impl Keys {
         }
     }
 
-    // How many keys have lesser heads: they are below the bound.
+    /// How many keys have lesser heads: they are below the bound.
     fn count_below(&self, from: &[u8]) -> usize
         ensures within { result ≤ length self.now }
         ensures below { AreBelow from.now (take result self.now) }
@@ -165,7 +165,7 @@ impl Keys {
     }
 }
 
-// The first of heads, and that of no bytes where there is none.
+/// The first of heads, and that of no bytes where there is none.
 fn low_of(heads: &[u64]) -> u64
     ensures { result ≡ low_of heads.now }
 {
@@ -175,7 +175,7 @@ fn low_of(heads: &[u64]) -> u64
     }
 }
 
-// Where the key is, or where it would go, where so many keys are below it. Mostly the next one tells.
+/// Where the key is, or where it would go, where so many keys are below it. Mostly the next one tells.
 fn place_from(keys: &[Key], from: usize, key: &Key) -> Result<usize, usize>
     requires in_order { IsStrictlySortedBy key_cmp keys.now }
     requires within { from ≤ length keys.now }
@@ -193,7 +193,7 @@ fn place_from(keys: &[Key], from: usize, key: &Key) -> Result<usize, usize>
     }
 }
 
-// Where the key is, or where it would go.
+/// Where the key is, or where it would go.
 #[inline(never)]
 fn place(keys: &[Key], key: &Key) -> Result<usize, usize>
     requires { IsStrictlySortedBy key_cmp keys.now }
@@ -203,7 +203,7 @@ fn place(keys: &[Key], key: &Key) -> Result<usize, usize>
     keys.binary_search_by(|k| k.compare(key))
 }
 
-// Where the keys begin that reach the bound, where so many are below it. Mostly the next one tells.
+/// Where the keys begin that reach the bound, where so many are below it. Mostly the next one tells.
 fn start_from(keys: &[Key], at: usize, from: &[u8], strict: bool) -> usize
     requires in_order { IsStrictlySortedBy key_cmp keys.now }
     requires within { at ≤ length keys.now }
@@ -220,7 +220,7 @@ fn start_from(keys: &[Key], at: usize, from: &[u8], strict: bool) -> usize
     }
 }
 
-// Where the keys begin that reach the bound.
+/// Where the keys begin that reach the bound.
 #[inline(never)]
 fn start(keys: &[Key], from: &[u8], strict: bool) -> usize
     requires { IsStrictlySortedBy key_cmp keys.now }
@@ -229,7 +229,7 @@ fn start(keys: &[Key], from: &[u8], strict: bool) -> usize
     keys.partition_point(|k| falls_short(k.bytes(), from, strict))
 }
 
-// The key is below the bound, or at it where strict.
+/// The key is below the bound, or at it where strict.
 fn falls_short(key: &[u8], from: &[u8], strict: bool) -> bool
     ensures { result ≡ not (reaches from.now strict key.now) }
 {
