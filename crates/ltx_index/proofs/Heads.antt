@@ -7,10 +7,11 @@ use Rattle.std.proofs.lemmas.Bool.{cases_lt, ltb-true}
 use Rattle.std.proofs.lemmas.List.{length-map}
 use Rattle.std.proofs.Math.Dec.{ltb}
 use Rattle.std.proofs.lemmas.List.Sorted.{IsPartitionedBy-ltb}
-use Rattle.std.specs.Ordering.{ordering_then, is_lt, is_le}
+use Rattle.std.specs.Ordering.{ordering_then, is_lt, is_le, MatchOrdering}
 use Rattle.std.specs.declared.cmp.Ordering.{Ordering}
 use Rattle.std.specs.declared.cmp.Ordering.TheVariants.{Less, Equal, Greater}
-use Rattle.std.specs.Cmp.{nat_cmp_is}
+use Rattle.std.specs.Cmp.{nat_cmp_is, ranks}
+use Rattle.ltx_index.proofs.Places.{in_order-insert, in_order-remove, in_order-take, in_order-drop}
 use Rattle.std.specs.Cmp.Lexicographic.{slice_cmp}
 use Rattle.std.proofs.lemmas.Cmp.{nat_list_cmp_total}
 use Rattle.ltx_model.specs.Keys.{key_cmp}
@@ -59,25 +60,28 @@ heads_order xs ys low_x low_y less = padded_less 8 xs ys (sym (eights (padded 8 
 -- ---- keys with their heads
 
 pub first_low : (ks : List (List ℕ)) → AllByRecursion AreLow ks → AreLow (first_of ks)
-first_low [] all i = omega arith
+first_low [] all = λ i. omega arith
 first_low (k ∷ ks) all = all.0
 
 pub low_is : (ks : List (List ℕ)) → low_of (map head_of ks) ≡ head_of (first_of ks)
 low_is [] = refl
 low_is (k ∷ ks) = refl
 
+less_or_greater : (o : Ordering) → o ≡ Less → o ≡ Greater → ⊥
+less_or_greater Less less greater = cc
+less_or_greater Equal less greater = cc
+less_or_greater Greater less greater = cc
+
+-- a greater key has no lesser head
+head_at_most : (k l : List ℕ) → AreLow k → AreLow l → key_cmp k l ≡ Less → head_of k ≤ head_of l
+head_at_most k l low_k low_l below = elim (cases_lt (head_of l) (head_of k)) [
+  | inl less ↦ absurd (less_or_greater (key_cmp l k) (heads_order l k low_l low_k less) (key_turned k l Less below))
+  | inr most ↦ most
+]
+
 at_least : (k : List ℕ) (ks : List (List ℕ)) → AreLow k → AllByRecursion AreLow ks → AllByRecursion (λ l. key_cmp k l ≡ Less) ks → AllByRecursion (λ h. head_of k ≤ h) (map head_of ks)
 at_least k [] low all above = tt
-at_least k (l ∷ ks) low all above = (this, at_least k ks low all.1 above.1) where
-  this : head_of k ≤ head_of l
-  this = elim (cases_lt (head_of l) (head_of k)) [
-    | inl less ↦ absurd (below_itself (key_cmp l k) (heads_order l k all.0 low less) (key_turned k l Less above.0))
-    | inr most ↦ most
-  ]
-  below_itself : (o : Ordering) → o ≡ Less → o ≡ Greater → ⊥
-  below_itself Less less greater = cc
-  below_itself Equal less greater = cc
-  below_itself Greater less greater = cc
+at_least k (l ∷ ks) low all above = (head_at_most k l low all.0 above.0, at_least k ks low all.1 above.1)
 
 -- heads never fall
 heads_rise : (ks : List (List ℕ)) → IsStrictlySortedBy key_cmp ks → AllByRecursion AreLow ks → IsNonDecreasingBy (λ h. h) (map head_of ks)
@@ -96,15 +100,17 @@ below_place key (k ∷ ks) (suc n) low all each =
     (key_turned k key Less (heads_order k key all.0 low (each 0 0 (omega arith) (omega arith))), below_place key ks n low all.1 (λ j d lt within. each (suc j) d (omega (arith, lt)) (omega (arith, within))))
 
 -- where lesser heads end, the keys before are below
-module _ (ks : List (List ℕ)) (heads : List ℕ) (low : ℕ) (h : AreHeaded ks heads low) (key : List ℕ) (bytes : AreLow key) where
-  pub heads_parted : IsPartitionedBy (λ x. ltb x (head_of key)) heads
-  heads_parted = rw h.each (IsPartitionedBy-ltb (λ x. x) (map head_of ks) (head_of key) (heads_rise ks h.in_order h.bytes))
+module _ (ks : List (List ℕ)) (heads : List ℕ) (low : ℕ) (h : AreHeaded ks heads low) where
+  pub heads_parted : (of_key : ℕ) → IsPartitionedBy (λ x. ltb x of_key) heads
+  heads_parted of_key = rw h.each (IsPartitionedBy-ltb (λ x. x) (map head_of ks) of_key (heads_rise ks h.in_order h.bytes))
 
-  pub below_heads : (n : ℕ) → n ≤ length heads → IsPartitionPoint (λ x. ltb x (head_of key) ≡ true) (λ x. ltb x (head_of key) ≡ false) heads n → AreBelow key (take n ks)
-  below_heads n within parts = below_place key ks n bytes h.bytes (λ j d lt in_keys. ltb-true _ _ (subst (λ (xs : List ℕ). ltb (get_or xs j d) (head_of key) ≡ true) h.each (parts.0 j d (omega arith) lt)))
+  pub below_heads : (key : List ℕ) (of_key n : ℕ) → AreLow key → of_key ≡ head_of key → IsPartitionPoint (λ x. ltb x of_key ≡ true) (λ x. ltb x of_key ≡ false) heads n → AreBelow key (take n ks)
+  below_heads key of_key n bytes is parts = below_place key ks n bytes h.bytes (λ j d lt in_keys.
+      let lesser : ltb (get_or (map head_of ks) j d) of_key ≡ true = subst (λ (xs : List ℕ). ltb (get_or xs j d) of_key ≡ true) h.each (parts.0 j d (omega arith) lt) in
+      subst (λ m. get_or (map head_of ks) j d < m) is (ltb-true _ _ lesser))
 
   pub as_many : length heads ≡ length ks
-  as_many = ap length h.each ∙ length-map head_of ks
+  as_many = ap length h.each ∙ length-map ks head_of
 
 -- ---- what the next key tells
 
@@ -148,6 +154,7 @@ pub short_by_head : (from k : List ℕ) (strict : Bool) → AreLow k → AreLow 
 short_by_head from k strict low_k low_from less = by_bound strict where
   above : key_cmp from k ≡ Greater
   above = key_turned k from Less (heads_order k from low_k low_from less)
+
   by_bound : (strict : Bool) → reaches from strict k ≡ false
   by_bound true = ap is_lt above
   by_bound false = ap is_le above
@@ -156,6 +163,111 @@ pub reached_by_head : (from k : List ℕ) (strict : Bool) → AreLow k → AreLo
 reached_by_head from k strict low_k low_from less = by_bound strict where
   below : key_cmp from k ≡ Less
   below = heads_order from k low_from low_k less
+
   by_bound : (strict : Bool) → reaches from strict k ≡ true
   by_bound true = ap is_lt below
   by_bound false = ap is_le below
+
+nat_less : (a b : ℕ) → nat_cmp a b ≡ Less → a < b
+nat_less a b is = subst (λ o. MatchOrdering o (a < b) (a ≡ b) (b < a)) is (ranks a b)
+
+nat_greater : (a b : ℕ) → nat_cmp a b ≡ Greater → b < a
+nat_greater a b is = subst (λ o. MatchOrdering o (a < b) (a ≡ b) (b < a)) is (ranks a b)
+
+module _ (ks : List (List ℕ)) (heads : List ℕ) (low of_from : ℕ) (from : List ℕ) (strict : Bool) (h : AreHeaded ks heads low) (is : of_from ≡ head_of from) (bytes : AreLow from) where
+  -- the head of the first key tells whether keys begin short of the bound
+  pub begins_below : nat_cmp low of_from ≡ Less → true ≡ not (reaches from strict (first_of ks))
+  begins_below less =
+      let lesser : head_of (first_of ks) < head_of from = rw (← h.first, ← is) (nat_less low of_from less) in
+      rw (short_by_head from (first_of ks) strict (first_low ks h.bytes) bytes lesser) refl
+
+  pub begins_above : nat_cmp low of_from ≡ Greater → false ≡ not (reaches from strict (first_of ks))
+  begins_above greater =
+      let more : head_of from < head_of (first_of ks) = rw (← h.first, ← is) (nat_greater low of_from greater) in
+      rw (reached_by_head from (first_of ks) strict (first_low ks h.bytes) bytes more) refl
+
+-- ---- what an edit leaves
+
+all_insert : {X : Type 0} (P : X → Type 0) (xs : List X) (i : ℕ) (y : X) → AllByRecursion P xs → P y → AllByRecursion P (insert xs i y)
+all_insert P xs zero y all here = (here, all)
+all_insert P [] (suc i) y all here = (here, tt)
+all_insert P (x ∷ xs) (suc i) y all here = (all.0, all_insert P xs i y all.1 here)
+
+all_remove : {X : Type 0} (P : X → Type 0) (xs : List X) (i : ℕ) → AllByRecursion P xs → AllByRecursion P (remove xs i)
+all_remove P [] zero all = tt
+all_remove P [] (suc i) all = tt
+all_remove P (x ∷ xs) zero all = all.1
+all_remove P (x ∷ xs) (suc i) all = (all.0, all_remove P xs i all.1)
+
+all_take : {X : Type 0} (P : X → Type 0) (n : ℕ) (xs : List X) → AllByRecursion P xs → AllByRecursion P (take n xs)
+all_take P zero xs all = tt
+all_take P (suc n) [] all = tt
+all_take P (suc n) (x ∷ xs) all = (all.0, all_take P n xs all.1)
+
+all_drop : {X : Type 0} (P : X → Type 0) (n : ℕ) (xs : List X) → AllByRecursion P xs → AllByRecursion P (drop n xs)
+all_drop P zero xs all = all
+all_drop P (suc n) [] all = tt
+all_drop P (suc n) (x ∷ xs) all = all_drop P n xs all.1
+
+map_insert : (ks : List (List ℕ)) (i : ℕ) (key : List ℕ) → insert (map head_of ks) i (head_of key) ≡ map head_of (insert ks i key)
+map_insert ks zero key = refl
+map_insert [] (suc i) key = refl
+map_insert (k ∷ ks) (suc i) key = ap (λ hs. head_of k ∷ hs) (map_insert ks i key)
+
+map_remove : (ks : List (List ℕ)) (i : ℕ) → remove (map head_of ks) i ≡ map head_of (remove ks i)
+map_remove [] zero = refl
+map_remove [] (suc i) = refl
+map_remove (k ∷ ks) zero = refl
+map_remove (k ∷ ks) (suc i) = ap (λ hs. head_of k ∷ hs) (map_remove ks i)
+
+map_take : (n : ℕ) (ks : List (List ℕ)) → take n (map head_of ks) ≡ map head_of (take n ks)
+map_take zero ks = refl
+map_take (suc n) [] = refl
+map_take (suc n) (k ∷ ks) = ap (λ hs. head_of k ∷ hs) (map_take n ks)
+
+map_drop : (n : ℕ) (ks : List (List ℕ)) → drop n (map head_of ks) ≡ map head_of (drop n ks)
+map_drop zero ks = refl
+map_drop (suc n) [] = refl
+map_drop (suc n) (k ∷ ks) = map_drop n ks
+
+-- keys with their heads, and the first of the heads
+pub headed : (ks : List (List ℕ)) (heads : List ℕ) (low : ℕ) → IsStrictlySortedBy key_cmp ks → AllByRecursion AreLow ks → heads ≡ map head_of ks → low ≡ low_of heads → AreHeaded ks heads low
+headed ks heads low sorted bytes each first = record { in_order = sorted; bytes = bytes; each = each; first = first ∙ ap low_of each ∙ low_is ks }
+
+module _ (ks : List (List ℕ)) (heads : List ℕ) (low : ℕ) (h : AreHeaded ks heads low) where
+  pub headed_insert : (i : ℕ) (key : List ℕ) (first : ℕ) → IsGapAt ks key i → AreLow key → first ≡ low_of (insert heads i (head_of key)) → AreHeaded (insert ks i key) (insert heads i (head_of key)) first
+  headed_insert i key first gap bytes is = headed (insert ks i key) (insert heads i (head_of key)) first (in_order-insert ks i key h.in_order gap) (all_insert AreLow ks i key h.bytes bytes) (ap (λ hs. insert hs i (head_of key)) h.each ∙ map_insert ks i key) is
+
+  pub headed_remove : (i first : ℕ) → first ≡ low_of (remove heads i) → AreHeaded (remove ks i) (remove heads i) first
+  headed_remove i first is = headed (remove ks i) (remove heads i) first (in_order-remove ks i h.in_order) (all_remove AreLow ks i h.bytes) (ap (λ hs. remove hs i) h.each ∙ map_remove ks i) is
+
+  pub headed_take : (n first : ℕ) → first ≡ low_of (take n heads) → AreHeaded (take n ks) (take n heads) first
+  headed_take n first is = headed (take n ks) (take n heads) first (in_order-take n ks h.in_order) (all_take AreLow n ks h.bytes) (ap (take n) h.each ∙ map_take n ks) is
+
+  pub headed_drop : (n first : ℕ) → first ≡ low_of (drop n heads) → AreHeaded (drop n ks) (drop n heads) first
+  headed_drop n first is = headed (drop n ks) (drop n heads) first (in_order-drop n ks h.in_order) (all_drop AreLow n ks h.bytes) (ap (drop n) h.each ∙ map_drop n ks) is
+
+-- one key alone
+pub headed_one : (key : List ℕ) (low : ℕ) → AreLow key → low ≡ head_of key → AreHeaded (key ∷ []) (low ∷ []) low
+unfolding IsStrictlySortedBy
+headed_one key low bytes is = record { in_order = (tt, tt); bytes = (bytes, tt); each = ap (λ h. h ∷ []) is; first = is }
+
+-- ---- how the head of bytes is read
+
+-- eight bytes or more
+pub padded_long : (n : ℕ) (xs : List ℕ) → n ≤ length xs → padded n xs ≡ take n xs
+padded_long zero xs long = refl
+padded_long (suc n) [] long = absurd (omega (arith, long))
+padded_long (suc n) (x ∷ xs) long = ap (λ l. x ∷ l) (padded_long n xs (omega (arith, long)))
+
+-- byte by byte
+pub padded_each : (xs : List ℕ) → padded 8 xs ≡ get_or xs 0 0 ∷ get_or xs 1 0 ∷ get_or xs 2 0 ∷ get_or xs 3 0 ∷ get_or xs 4 0 ∷ get_or xs 5 0 ∷ get_or xs 6 0 ∷ get_or xs 7 0 ∷ []
+padded_each [] = refl
+padded_each (a ∷ []) = refl
+padded_each (a ∷ b ∷ []) = refl
+padded_each (a ∷ b ∷ c ∷ []) = refl
+padded_each (a ∷ b ∷ c ∷ d ∷ []) = refl
+padded_each (a ∷ b ∷ c ∷ d ∷ e ∷ []) = refl
+padded_each (a ∷ b ∷ c ∷ d ∷ e ∷ f ∷ []) = refl
+padded_each (a ∷ b ∷ c ∷ d ∷ e ∷ f ∷ g ∷ []) = refl
+padded_each (a ∷ b ∷ c ∷ d ∷ e ∷ f ∷ g ∷ h ∷ xs) = refl

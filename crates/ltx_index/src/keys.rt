@@ -1,7 +1,7 @@
 //! The keys of a leaf in rising order, each with its head beside it.
 
 ghost use Rattle.std.specs.Prelude.{◌≡◌, ◌≤◌, ◌<◌, [], ◌∷◌, ◌++◌, IfOk, IfErr, OnOk, OnErr, vec_len, insert, remove, length, take, drop, not};
-ghost use Rattle.std.specs.List.{AllByRecursion};
+ghost use Rattle.std.specs.Vec.{vec_capacity};
 ghost use Rattle.std.specs.List.Sorted.{IsStrictlySortedBy};
 ghost use Rattle.ltx_model.specs.Keys.{key_cmp};
 ghost use Rattle.ltx_model.specs.NextKeys.{reaches};
@@ -114,8 +114,9 @@ impl Keys {
         if self.keys.reserve(1).is_err() || self.heads.reserve(1).is_err() {
             return Err(key);
         }
-        let _ = self.heads.insert(at, head(key.bytes()));
-        let _ = self.keys.insert(at, key);
+        let of_key = head(key.bytes());
+        put_reserved(&mut self.heads, at, of_key);
+        put_reserved(&mut self.keys, at, key);
         self.low = low_of(&self.heads);
         Ok(())
     }
@@ -163,6 +164,15 @@ impl Keys {
         let of_from = head(from);
         self.heads.partition_point(|h| *h < of_from)
     }
+}
+
+/// Puts the item into its place, where there is room for it.
+fn put_reserved<T: Drop>(items: &mut Vec<T>, at: usize, item: T)
+    requires in_range { at ≤ vec_len items.old }
+    requires room { vec_len items.old < vec_capacity items.old }
+    ensures { items.new.items ≡ insert items.old.items at item }
+{
+    let _ = items.insert(at, item);
 }
 
 /// The first of heads, and that of no bytes where there is none.

@@ -137,14 +137,7 @@ impl<V> Leaf<V> {
                 if self.keys.len() >= MOST {
                     return Err((key, value));
                 }
-                if self.values.reserve(1).is_err() {
-                    return Err((key, value));
-                }
-                if let Err(key) = self.keys.insert(at, key) {
-                    return Err((key, value));
-                }
-                // There is room for it.
-                let _ = self.values.insert(at, value);
+                put_at(&mut self.keys, &mut self.values, at, key, value)?;
                 Ok(None)
             }
         }
@@ -180,14 +173,58 @@ impl<V> Leaf<V> {
         if self.keys.len() < MOST {
             return Ok(None);
         }
-        let mut values = self.values.split_off(MOST / 2)?;
-        match self.keys.split_off(MOST / 2) {
-            Ok(keys) => Ok(Some(Leaf { keys, values })),
-            Err(_) => {
-                // They go back into the room that they left.
-                let _ = self.values.append(&mut values);
-                Err(NoMemory)
-            }
+        let (keys, values) = split_at(&mut self.keys, &mut self.values, MOST / 2)?;
+        Ok(Some(Leaf { keys, values }))
+    }
+}
+
+/// Puts the key into its gap and the value into the same place, or leaves both for want of memory.
+fn put_at<V: Drop>(
+    keys: &mut Keys,
+    values: &mut Vec<V>,
+    at: usize,
+    key: Key,
+    value: V,
+) -> Result<(), (Key, V)>
+    requires gap { IsGapAt keys.old key at }
+    requires in_values { at ≤ vec_len values.old }
+    ensures key_put { IfOk result (λ _. keys.new ≡ insert keys.old at key) }
+    ensures value_put { IfOk result (λ _. values.new.items ≡ insert values.old.items at value) }
+    ensures back { IfErr result (λ pair. pair ≡ (key, value)) }
+    ensures kept { OnErr result ((keys.new ≡ keys.old) × (values.new.items ≡ values.old.items)) }
+{
+    if values.reserve(1).is_err() {
+        return Err((key, value));
+    }
+    if let Err(key) = keys.insert(at, key) {
+        return Err((key, value));
+    }
+    // There is room for it.
+    let _ = values.insert(at, value);
+    Ok(())
+}
+
+/// Takes what stands from the place on out of both, or leaves both for want of memory.
+fn split_at<V: Drop>(
+    keys: &mut Keys,
+    values: &mut Vec<V>,
+    at: usize,
+) -> Result<(Keys, Vec<V>), NoMemory>
+    requires in_keys { at ≤ length keys.old }
+    requires in_values { at ≤ vec_len values.old }
+    ensures keys_kept { OnOk result (keys.new ≡ take at keys.old) }
+    ensures values_kept { OnOk result (values.new.items ≡ take at values.old.items) }
+    ensures keys_taken { IfOk result (λ upper. upper.0 ≡ drop at keys.old) }
+    ensures values_taken { IfOk result (λ upper. upper.1.items ≡ drop at values.old.items) }
+    ensures kept { OnErr result ((keys.new ≡ keys.old) × (values.new.items ≡ values.old.items)) }
+{
+    let mut upper = values.split_off(at)?;
+    match keys.split_off(at) {
+        Ok(others) => Ok((others, upper)),
+        Err(_) => {
+            // They go back into the room that they left.
+            let _ = values.append(&mut upper);
+            Err(NoMemory)
         }
     }
 }

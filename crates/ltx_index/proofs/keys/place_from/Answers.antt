@@ -24,4 +24,5 @@ returns-in-Greater c =
     record { found = tt; absent = gap_next keys c.args.from c.args.key.now next c.requires.in_order c.requires.within c.requires.below here (sym c.compare.ensures.order ∙ c.in-Greater.is) }
 
 pub returns-in_default : goal.returns-in_default
-returns-in_default c = ?
+returns-in_default c =
+    record { found = tt; absent = gap_end c.args.keys.now c.args.from c.args.key.now c.requires.within c.requires.below (sym (lent_item (λ x. x.now) c.args.keys.now c.args.from c.get.result c.get.ensures.lookup) ∙ ap (option_map (λ x. x.now)) c.in_default.is) }
