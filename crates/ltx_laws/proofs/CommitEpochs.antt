@@ -28,7 +28,7 @@ use Rattle.ltx_laws.proofs.PlacesByCommit.{entry_is}
 use Rattle.ltx_laws.proofs.SlotsKept.{none_open, state_more}
 
 -- the committed members of the agenda are what the moves commit
-abbrev AreTheirs : List Timed → Type 0
+abbrev pub AreTheirs : List Timed → Type 0
 AreTheirs moves = IsPermutation (commits_of moves) (serial (agenda_from [] moves))
 
 -- one lawful move more
@@ -85,7 +85,7 @@ module _ (built : State → Line → Bool) (base : Base) (history : List Entry) 
   abbrev there : State
   there = state base history
 
-  theirs_through : AreTheirs (moves_through d there.moves)
+  pub theirs_through : AreTheirs (moves_through d there.moves)
   theirs_through =
       let t = timely_of built base history legal in
       let first = through_first d there.moves t.rising in

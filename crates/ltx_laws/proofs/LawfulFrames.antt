@@ -138,12 +138,15 @@ within_moves lower epoch (m ∷ moves) = by_test (nat_lt lower m.epoch && nat_lt
       let under : m.epoch < epoch = ltb-true m.epoch epoch (and_right (nat_lt lower m.epoch) (nat_lt m.epoch epoch) is) in
       by_move m.move low (let high : m.epoch ≤ epoch - 1 = omega arith in high) all
 
-sealed_epoch : (s : State) → (sealed s).epoch ≡ s.epoch - 1
+pub sealed_epoch : (s : State) → (sealed s).epoch ≡ s.epoch - 1
 unfolding sealed
 sealed_epoch s = refl
 
 sealed_within : (s : State) → AllByRecursion (IsWithin s.durable (sealed s).epoch) (sealed s).events
 sealed_within s = subst (λ e. AllByRecursion (IsWithin s.durable e) (sealed s).events) (sym (sealed_epoch s)) (subst (AllByRecursion (IsWithin s.durable (s.epoch - 1))) (sym (sealed_events s)) (within_moves s.durable s.epoch s.moves))
+
+pub sealed_closed : (s : State) → IsClosed (sealed s)
+sealed_closed s = all_map (IsWithin s.durable (sealed s).epoch) (IsCommitUpTo (sealed s).epoch) (λ e within. within.1) (sealed s).events (sealed_within s)
 
 -- the frames of entries
 timed_from : (built : State → Line → Bool) (s : State) (history : List Entry) → s.durable < s.epoch → IsLegalFrom built s history → AreInTime s.durable (frames_from s history)

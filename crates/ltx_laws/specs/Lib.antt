@@ -10,3 +10,5 @@ pub mod Floors
 pub mod LastWriters
 pub mod Answered
 pub mod Areas
+pub mod Printed
+pub mod AskedLimits

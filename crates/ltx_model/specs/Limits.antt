@@ -46,6 +46,10 @@ bound_limit = 64
 abbrev pub value_limit : ℕ
 value_limit = 1024
 
+-- how many bytes a key, an end of a scan and a value have at most where they take no memory
+abbrev pub held_inside : ℕ
+held_inside = 30
+
 -- numbers that are bytes
 abbrev pub AreBytes : List ℕ → Type 0
 AreBytes bytes = All (λ b. b < 256) bytes

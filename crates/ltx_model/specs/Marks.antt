@@ -1,6 +1,6 @@
 -- Marks, which count commits: the mark of a slot and the number of a commit, read off the moves.
-use Rattle.std.specs.Prelude.{◌≡◌, ℕ, suc, ◌+◌, Bool, true, false, ◌==◌, List, [], ◌∷◌, ◌++◌, length, Option, Some, None, option_map, if◌then◌else◌}
-use Rattle.std.specs.List.{list_any, AllByRecursion}
+use Rattle.std.specs.Prelude.{◌≡◌, ℕ, suc, ◌+◌, true, false, ◌==◌, List, [], ◌∷◌, ◌++◌, length, Option, Some, None, option_map, if◌then◌else◌}
+use Rattle.std.specs.List.{AllByRecursion}
 use Rattle.ltx_model.specs.Operations.{Transaction}
 use Rattle.ltx_model.specs.Agenda.{Timed, is_slot, has_slot, commits_of, moves_until}
 use Rattle.ltx_model.specs.States.{State}
