@@ -2,7 +2,7 @@ use Rattle.std.proofs.Common.{rules, not}
 use Rattle.std.proofs.lemmas.Fn.{always_returns_same}
 use Rattle.ltx_model.specs.NextKeys.{reaches}
 use Rattle.ltx_index.proofs.Places.{started, falls_short_before}
-use Rattle.ltx_index.proofs.leaf.start.Goals as goal
+use Rattle.ltx_index.proofs.keys.start.Goals as goal
 
 -- the closure tells of each key whether it falls short
 pub returns : goal.returns

@@ -2,7 +2,7 @@ use Rattle.std.proofs.Common.{rules}
 use Rattle.std.proofs.lemmas.Fn.{always_returns_same}
 use Rattle.ltx_model.specs.Keys.{key_cmp}
 use Rattle.ltx_index.proofs.Places.{searched}
-use Rattle.ltx_index.proofs.leaf.place.Goals as goal
+use Rattle.ltx_index.proofs.keys.place.Goals as goal
 
 -- the closure compares each key with this one
 pub returns : goal.returns
