@@ -5,7 +5,7 @@ ghost use Rattle.std.specs.List.{AllByRecursion};
 ghost use Rattle.ltx_model.specs.Keys.{Cell, IsRising};
 ghost use Rattle.ltx_model.specs.Operations.{cell_of_write};
 ghost use Rattle.ltx_store.specs.Kept.{versions_at, room_at, latest_rows, AreUpTo};
-ghost use Rattle.ltx_core.specs.Events.{HasInstalled};
+ghost use Rattle.ltx_core.specs.Installed.{HasInstalled};
 ghost use Rattle.ltx_core.specs.Stands.{IsOfBase};
 
 use ltx_model::memory::NoMemory;
