@@ -57,7 +57,7 @@ module _ (old : CoreView) (session : ℕ) where
       let s : State = state base history in
       let here : active_of s session ≡ None = none_open old session base history stands none in
       let last : old.counters.last ≡ s.last = ap (λ c. c.last) stands.counters in
-      let apart : (s.last == last_number) ≡ false = ne_eqb s.last last_number (λ e. let no : ⊥ = omega arith in no) in
+      let apart : (s.last == last_number) ≡ false = ne_eqb s.last last_number (λ e. let wrong : ⊥ = omega arith in wrong) in
       let number_is : a.number ≡ s.last + 1 = number ∙ next ∙ ap (λ n. n + 1) last in
       let o : Active = record { session = session; kind = IsShort; number = s.last + 1; steps = [] } in
       let is_open : IsOpen old.store old.commits base history o a = record {

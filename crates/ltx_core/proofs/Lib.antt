@@ -15,3 +15,4 @@ pub mod Advanced
 pub mod Committed
 pub mod SlotChanges
 pub mod NewCores
+pub mod FromFields

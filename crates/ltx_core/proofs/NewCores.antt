@@ -1,5 +1,5 @@
 -- A new core stands for its base, and what a core tells of its sessions.
-use Rattle.std.proofs.Common.{◌≡◌, inl, ℕ, ◌+◌, List, [], Option, Some, None, is_some, refl, sym, ap, ◌∙◌, subst}
+use Rattle.std.proofs.Common.{◌≡◌, inl, ℕ, ◌+◌, Bool, List, [], Option, Some, None, is_some, refl, sym, ap, ◌∙◌, subst}
 use Rattle.std.specs.List.{find, AllByRecursion}
 use Rattle.ltx_model.specs.declared.replies.Entry.{Entry}
 use Rattle.ltx_model.specs.Keys.{Cell}
@@ -31,9 +31,14 @@ new_stands base core rows firsts order commits opens epoch durable last =
     subst (StandsAt core base []) (sym (state-none (first_state base))) first
 
 -- whether a session has an open transaction
-pub has_tells : (core : CoreView) (session : ℕ) (o : Option OpenView) → o ≡ opened core.opens session → (base : Base) (history : List Entry) → StandsFor core base history
+tells : (core : CoreView) (session : ℕ) (o : Option OpenView) → o ≡ opened core.opens session → (base : Base) (history : List Entry) → StandsFor core base history
     → is_some o ≡ is_some (active_of (state base history) session)
-has_tells core session None is base history stands =
+tells core session None is base history stands =
     ap is_some (sym (opens_none core.store core.commits base history core.opens (state base history).active stands.opens session (sym is)))
-has_tells core session (Some a) is base history stands =
+tells core session (Some a) is base history stands =
     ap is_some (sym (opens_some core.store core.commits base history core.opens (state base history).active stands.opens session a (sym is)).found)
+
+pub has_tells : (v core : CoreView) → v ≡ core → (session : ℕ) (b : Bool) → b ≡ is_some (opened v.opens session) → (base : Base) (history : List Entry) → StandsFor core base history
+    → b ≡ is_some (active_of (state base history) session)
+has_tells v core same session b is base history stands =
+    is ∙ ap (λ (u : CoreView). is_some (opened u.opens session)) same ∙ tells core session (opened core.opens session) refl base history stands

@@ -176,7 +176,7 @@ module _ (store : List Kept) (commits : ℕ) (base : Base) (history : List Entry
     found = all_push (IsFound store commits base history new) active o
         (both_all (λ u. is_of o.session u ≡ false) (IsFound store commits base history opens) (IsFound store commits base history new) (other_stays o.session (Some a) new at) active (find_none (is_of o.session) active none) has.found)
         (record { open_tx = a; here = at.here; is_open = is });
-    others = λ session no. let both = find_more session active o no in at.others session (apart_back o.session session both.1) ∙ has.others session both.0;
+    others = λ session nothing. let both = find_more session active o nothing in at.others session (apart_back o.session session both.1) ∙ has.others session both.0;
     apart = apart_more active o has.apart none;
   }
 
@@ -186,19 +186,19 @@ module _ (store : List Kept) (commits : ℕ) (base : Base) (history : List Entry
   opens_ended session o new is at = record {
     found = both_all (λ u. is_of session u ≡ false) (IsFound store commits base history opens) (IsFound store commits base history new) (other_stays session None new at) (without_first (is_of session) active)
         (apart_left session active o has.apart is) (all_without (IsFound store commits base history opens) (is_of session) active has.found);
-    others = λ n no. by_test n no (n == session) refl;
+    others = λ n nothing. by_test n nothing (n == session) refl;
     apart = pairs_without AreApart (is_of session) active has.apart;
   } where
     by_test : (n : ℕ) → find (is_of n) (without_first (is_of session) active) ≡ None → (b : Bool) → (n == session) ≡ b → opened new n ≡ None
-    by_test n no true same = ap (opened new) (eqb-true n session same) ∙ at.here
-    by_test n no false apart = at.others n apart ∙ has.others n (find_left session n active apart no)
+    by_test n nothing true same = ap (opened new) (eqb-true n session same) ∙ at.here
+    by_test n nothing false apart = at.others n apart ∙ has.others n (find_left session n active apart nothing)
 
   -- one changed
   pub opens_changed : (session : ℕ) (f : Active → Active) (o : Active) (b : OpenView) (new : List (Option OpenView)) → ((u : Active) → (f u).session ≡ u.session) → find (is_of session) active ≡ Some o
       → HasAt opens session (Some b) new → IsOpen store commits base history (f o) b → HasOpens store commits base history new (change_first (is_of session) f active)
   opens_changed session f o b new stays is at open_is = record {
     found = changed active is has.found has.apart;
-    others = λ n no. by_test n no (n == session) refl;
+    others = λ n nothing. by_test n nothing (n == session) refl;
     apart = apart_changed session f stays active has.apart;
   } where
     changed : (os : List Active) → find (is_of session) os ≡ Some o → AllByRecursion (IsFound store commits base history opens) os → IsPairwise AreApart os
@@ -216,5 +216,5 @@ module _ (store : List Kept) (commits : ℕ) (base : Base) (history : List Entry
       by_head false here found later = (other_stays session (Some b) new at u here all.0, later found)
 
     by_test : (n : ℕ) → find (is_of n) (change_first (is_of session) f active) ≡ None → (t : Bool) → (n == session) ≡ t → opened new n ≡ None
-    by_test n no true same = absurd (none_some (sym (none_changed session f stays session active (subst (λ k. find (is_of k) (change_first (is_of session) f active) ≡ None) (eqb-true n session same) no)) ∙ is))
-    by_test n no false apart = at.others n apart ∙ has.others n (none_changed session f stays n active no)
+    by_test n nothing true same = absurd (none_some (sym (none_changed session f stays session active (subst (λ k. find (is_of k) (change_first (is_of session) f active) ≡ None) (eqb-true n session same) nothing)) ∙ is))
+    by_test n nothing false apart = at.others n apart ∙ has.others n (none_changed session f stays n active nothing)

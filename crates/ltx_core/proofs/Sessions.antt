@@ -48,19 +48,19 @@ module _ (n : ℕ) (f : Active → Active) (stays : (o : Active) → (f o).sessi
   none_changed m [] none = refl
   none_changed m (o ∷ os) none = by_test (is_of n o) none (none_changed m os) where
     head : (b : Bool) (r q : List Active) → ((f o).session == m) ≡ b → find (is_of m) (f o ∷ r) ≡ None → find (is_of m) r ≡ find (is_of m) q → find (is_of m) (o ∷ q) ≡ None
-    head true r q is no same = absurd (true_false (sym is ∙ (find_none (is_of m) (f o ∷ r) no).0))
-    head false r q is no same =
+    head true r q is nothing same = absurd (true_false (sym is ∙ (find_none (is_of m) (f o ∷ r) nothing).0))
+    head false r q is nothing same =
         let first : is_of m o ≡ false = subst (λ k. (k == m) ≡ false) (stays o) is in
-        let rest : find (is_of m) r ≡ None = ap (λ b. cond b (Some (f o)) (find (is_of m) r)) (sym is) ∙ no in
+        let rest : find (is_of m) r ≡ None = ap (λ b. cond b (Some (f o)) (find (is_of m) r)) (sym is) ∙ nothing in
         ap (λ b. cond b (Some o) (find (is_of m) q)) first ∙ sym same ∙ rest
 
     by_test : (b : Bool) → find (is_of m) (cond b (f o ∷ os) (o ∷ change_first (is_of n) f os)) ≡ None → (find (is_of m) (change_first (is_of n) f os) ≡ None → find (is_of m) os ≡ None)
         → find (is_of m) (o ∷ os) ≡ None
-    by_test true no later = head ((f o).session == m) os os refl no refl
-    by_test false no later = by_head (is_of m o) refl no where
+    by_test true nothing later = head ((f o).session == m) os os refl nothing refl
+    by_test false nothing later = by_head (is_of m o) refl nothing where
       by_head : (b : Bool) → is_of m o ≡ b → cond b (Some o) (find (is_of m) (change_first (is_of n) f os)) ≡ None → find (is_of m) (o ∷ os) ≡ None
-      by_head true is no = absurd (none_some (sym no))
-      by_head false is no = ap (λ b. cond b (Some o) (find (is_of m) os)) is ∙ later no
+      by_head true is nothing = absurd (none_some (sym nothing))
+      by_head false is nothing = ap (λ b. cond b (Some o) (find (is_of m) os)) is ∙ later nothing
 
 -- without the one of a session none of that session is left, and the others are
 pub apart_left : (n : ℕ) (os : List Active) (o : Active) → IsPairwise AreApart os → find (is_of n) os ≡ Some o → AllByRecursion (λ u. is_of n u ≡ false) (without_first (is_of n) os)

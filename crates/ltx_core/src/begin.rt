@@ -18,7 +18,7 @@ impl Core {
         ensures ok { IfOk result (λ reply. Steps self.old (Ask session verbs.Short) reply self.new) }
         ensures err { OnErr result (IsSame self.old self.new) }
     {
-        if self.opens.get(session).is_some() {
+        if self.opens.has(session) {
             return Ok(Reply::HasTx);
         }
         match Tx::new(self.last + 1) {

@@ -50,6 +50,16 @@ impl Opens {
         self.slots.get(usize::from(session.number()))?.as_ref()
     }
 
+    /// Whether the session has an open transaction.
+    pub(crate) fn has(&self, session: Session) -> bool
+        ensures { result ≡ is_some (opened self.now session) }
+    {
+        matches!(
+            self.slots.get(usize::from(session.number())),
+            Some(Some(_))
+        )
+    }
+
     /// The session has this open transaction, in place of the one that it had. After NoMemory there
     /// may be more room.
     pub(crate) fn put(&mut self, session: Session, tx: Open) -> Result<(), NoMemory>
@@ -96,7 +106,8 @@ impl Opens {
         operate_in(&mut self.slots[place], alloc, store, mark, op)
     }
 
-    // Makes slots, up to this many.
+    /// Makes slots, up to this many.
+    #[tactic(auto, using(crate::proofs::SlotChanges::opened_push))]
     fn grow(&mut self, count: usize) -> Result<(), NoMemory>
         ensures within { OnOk result (count ≤ length self.new) }
         ensures kept { (n : ℕ) → opened self.new n ≡ opened self.old n }

@@ -97,6 +97,6 @@ impl Core {
     pub fn has_tx(&self, session: Session) -> bool
         ensures value { (base : Base) (history : List Entry) → StandsFor self.now base history → result ≡ is_some (active_of (state base history) session) }
     {
-        self.opens.get(session).is_some()
+        self.opens.has(session)
     }
 }
