@@ -7,7 +7,8 @@ use Rattle.ltx_model.specs.declared.replies.Entry.{Entry}
 use Rattle.ltx_model.specs.declared.replies.Reply.TheVariants as replies
 use Rattle.ltx_model.specs.States.{Base, IsSound, State}
 use Rattle.ltx_model.specs.Histories.{advanced, state}
-use Rattle.ltx_model.specs.Answers.{last_epoch, advance}
+use Rattle.ltx_model.specs.Answers.{advance}
+use Rattle.ltx_model.specs.Limits.{last_epoch}
 use Rattle.ltx_core.specs.Views.{CoreView}
 use Rattle.ltx_core.specs.Same.{IsSame}
 use Rattle.ltx_core.specs.Stands.{StandsAt, StandsFor}

@@ -13,7 +13,8 @@ use Rattle.ltx_model.specs.NoteLists.{NoteList, no_notes}
 use Rattle.ltx_model.specs.Notes.{AreNotes}
 use Rattle.ltx_model.specs.States.{IsShort, Active, Base, IsSound, State, is_of, active_of}
 use Rattle.ltx_model.specs.Histories.{begun, state}
-use Rattle.ltx_model.specs.Answers.{last_number, short_reply, begin_short}
+use Rattle.ltx_model.specs.Answers.{short_reply, begin_short}
+use Rattle.ltx_model.specs.Limits.{last_number}
 use Rattle.ltx_lemmas.proofs.Lists.{without_nothing}
 use Rattle.ltx_core.specs.Views.{OpenView, CoreView}
 use Rattle.ltx_core.specs.Slots.{opened, HasAt}

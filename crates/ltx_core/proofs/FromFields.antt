@@ -6,14 +6,14 @@ use Rattle.ltx_model.specs.declared.commands.Verb.TheVariants as verbs
 use Rattle.ltx_model.specs.declared.replies.Reply.{Reply}
 use Rattle.ltx_model.specs.declared.replies.Reply.TheVariants as replies
 use Rattle.ltx_model.specs.NoteLists.{no_notes}
-use Rattle.ltx_model.specs.Answers.{last_epoch, last_number}
+use Rattle.ltx_model.specs.Limits.{last_epoch, last_number}
 use Rattle.ltx_lemmas.proofs.Lists.{true_false}
 use Rattle.ltx_model.specs.declared.commands.Op.{Op}
 use Rattle.ltx_model.specs.declared.replies.Entry.{Entry}
 use Rattle.ltx_model.specs.declared.writes.Write.{Write}
 use Rattle.ltx_model.specs.States.{Base}
 use Rattle.ltx_model.specs.Shorts.{Change}
-use Rattle.ltx_model.specs.Answers.{most_operations}
+use Rattle.ltx_model.specs.Limits.{most_operations}
 use Rattle.std.proofs.lemmas.Bool.{leb-true, leb-false}
 use Rattle.ltx_lemmas.proofs.Lists.{some_same}
 use Rattle.ltx_store.specs.Kept.{Kept, AreUpTo, HasSameVersions}

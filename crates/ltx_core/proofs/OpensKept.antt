@@ -4,13 +4,13 @@ use Rattle.std.specs.List.{find, AllByRecursion}
 use Rattle.std.proofs.lemmas.Bool.{eqb-true}
 use Rattle.ltx_model.specs.declared.looked.Noted.{Noted}
 use Rattle.ltx_model.specs.declared.replies.Entry.{Entry}
-use Rattle.ltx_model.specs.Lists.{Numbered, numbered, numbered_from, change_first, without_first}
+use Rattle.ltx_model.specs.Lists.{Numbered, numbered, numbered_from, change_first, without_first, IsPairwise}
 use Rattle.ltx_model.specs.Keys.{Cell}
 use Rattle.ltx_model.specs.Notes.{AreNotesOf, AreNotes}
 use Rattle.ltx_model.specs.States.{IsShort, Step, Active, Base, transaction_of, answered_of, is_of}
-use Rattle.ltx_model.specs.Answers.{most_operations, is_full}
+use Rattle.ltx_model.specs.Answers.{is_full}
+use Rattle.ltx_model.specs.Limits.{most_operations}
 use Rattle.ltx_lemmas.proofs.Lists.{all_map, all_push, all_without, all_find, some_same, none_some, true_false, find_none, find_passes}
-use Rattle.ltx_lemmas.specs.Pairs.{IsPairwise}
 use Rattle.ltx_store.specs.Kept.{Kept, rows_at}
 use Rattle.ltx_core.specs.Views.{OpenView}
 use Rattle.ltx_core.specs.Slots.{opened, HasAt}

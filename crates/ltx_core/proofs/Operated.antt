@@ -25,7 +25,8 @@ use Rattle.ltx_model.specs.Agenda.{serial}
 use Rattle.ltx_model.specs.Notes.{IsNote, AreNotesOf, AreNotes}
 use Rattle.ltx_model.specs.States.{IsShort, Step, Active, Base, IsSound, State, first_state, answered_of, transaction_of, is_of, active_of, latest}
 use Rattle.ltx_model.specs.Histories.{answered, with_step, reply_changes, after, state}
-use Rattle.ltx_model.specs.Answers.{most_operations, operation, operation_in, operation_of_short, counted, is_full, command_reply, answer}
+use Rattle.ltx_model.specs.Answers.{operation, operation_in, operation_of_short, counted, is_full, command_reply, answer}
+use Rattle.ltx_model.specs.Limits.{most_operations}
 use Rattle.ltx_model.proofs.OneMore.{state-push, after-is, see-is}
 use Rattle.ltx_lemmas.proofs.Lists.{all_map, all_push, all_find, change_find}
 use Rattle.ltx_buffer.proofs.Merges.{writes_of-push}
@@ -159,7 +160,7 @@ module _ (old : CoreView) (up_to : AreUpTo old.commits old.store) (session : ℕ
         ∙ (λ i. see (is.number i) (newest i) (sym (ops_answered o.steps) i) op)
 
     abbrev step : Step
-    step = record { op = op; reply = reply; latest = latest s }
+    step = record { op = op; reply = reply; order = serial s.agenda; latest = latest s }
 
     abbrev more : List Entry
     more = record { line = asks session op; reply = reply } ∷ []

@@ -2,9 +2,8 @@
 use Rattle.std.proofs.Common.{◌≡◌, ℕ, Bool, true, false, cond, ◌==◌, List, [], ◌∷◌, ◌++◌, Some, None, refl, sym, ap, ◌∙◌, subst}
 use Rattle.std.specs.List.{find, AllByRecursion}
 use Rattle.std.proofs.lemmas.Bool.{eqb-true, eq-eqb, ne_eqb}
-use Rattle.ltx_model.specs.Lists.{change_first, without_first}
+use Rattle.ltx_model.specs.Lists.{change_first, without_first, IsPairwise}
 use Rattle.ltx_model.specs.States.{Active, is_of}
-use Rattle.ltx_lemmas.specs.Pairs.{IsPairwise}
 use Rattle.ltx_lemmas.proofs.Lists.{all_map, all_push, all_without, true_false, none_some, find_none, find_none_from}
 use Rattle.ltx_core.specs.Stands.{AreApart}
 

@@ -8,7 +8,7 @@ use Rattle.ltx_model.specs.declared.commands.Op.{Op}
 use Rattle.ltx_model.specs.declared.replies.Reply.{Reply}
 use Rattle.ltx_model.specs.declared.replies.Reply.TheVariants.{NoTx, LimitOps}
 use Rattle.ltx_model.specs.declared.writes.Write.{Write}
-use Rattle.ltx_model.specs.Answers.{most_operations}
+use Rattle.ltx_model.specs.Limits.{most_operations}
 use Rattle.ltx_lemmas.proofs.Lists.{true_false, some_same, none_some}
 use Rattle.ltx_store.specs.Kept.{Kept}
 use Rattle.ltx_core.specs.Operations.{HasDoneIn, HasMore}

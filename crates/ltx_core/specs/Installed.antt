@@ -2,7 +2,7 @@
 use Rattle.std.specs.Prelude.{◌≡◌, ℕ, ◌<◌, List, [], ◌∷◌, ◌++◌, Option, Some, None}
 use Rattle.ltx_model.specs.declared.writes.Write.{Write}
 use Rattle.ltx_model.specs.Keys.{Cell}
-use Rattle.ltx_lemmas.specs.Writes.{rows_after_writes}
+use Rattle.ltx_model.specs.Rows.{rows_after_writes}
 use Rattle.ltx_buffer.specs.Own.{write_at}
 use Rattle.ltx_chain.specs.declared.chain.Version.{Version}
 use Rattle.ltx_store.specs.Kept.{Kept, versions_at, rows_at, latest_rows}

@@ -12,7 +12,7 @@ use Rattle.ltx_model.specs.Keys.{Cell}
 use Rattle.ltx_model.specs.Operations.{write_of, put_write, writes_of}
 use Rattle.ltx_model.specs.Rows.{see}
 use Rattle.ltx_model.specs.Notes.{IsNote}
-use Rattle.ltx_model.specs.Answers.{most_operations}
+use Rattle.ltx_model.specs.Limits.{most_operations}
 use Rattle.ltx_chain.specs.declared.chain.Version.{Version}
 use Rattle.ltx_chain.specs.Versions.{visible}
 use Rattle.ltx_store.specs.Kept.{Kept, versions_at, rows_at}

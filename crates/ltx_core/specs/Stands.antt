@@ -5,7 +5,7 @@ use Rattle.ltx_model.specs.declared.looked.Noted.{Noted}
 use Rattle.ltx_model.specs.declared.replies.Entry.{Entry}
 use Rattle.ltx_model.specs.declared.rows.StoredRow.{StoredRow}
 use Rattle.ltx_model.specs.declared.writes.Look.{Look}
-use Rattle.ltx_model.specs.Lists.{Numbered, numbered}
+use Rattle.ltx_model.specs.Lists.{Numbered, numbered, IsPairwise}
 use Rattle.ltx_model.specs.Keys.{Cell, IsRising}
 use Rattle.ltx_model.specs.StoredRows.{cell_of, row_at}
 use Rattle.ltx_model.specs.Operations.{Transaction, operations, writes_key, writes_of}
@@ -13,7 +13,6 @@ use Rattle.ltx_model.specs.Agenda.{serial, commits_of}
 use Rattle.ltx_model.specs.Notes.{AreNotes}
 use Rattle.ltx_model.specs.States.{IsShort, Step, Active, Base, State, is_of, active_of, latest, order}
 use Rattle.ltx_model.specs.Histories.{with_step, state}
-use Rattle.ltx_lemmas.specs.Pairs.{IsPairwise}
 use Rattle.ltx_buffer.specs.Own.{write_at}
 use Rattle.ltx_chain.specs.declared.chain.Version.{Version}
 use Rattle.ltx_chain.specs.Versions as versions

@@ -1,6 +1,6 @@
 -- What a core keeps: the counters, the serial order, the store, and each open transaction with its notes and its own writes.
 use Rattle.std.specs.Prelude.{ℕ, ◌≤◌, List, length, Option}
-use Rattle.ltx_model.specs.Answers.{last_epoch, last_number}
+use Rattle.ltx_model.specs.Limits.{last_epoch, last_number}
 use Rattle.ltx_model.specs.NoteLists.{NoteList}
 use Rattle.ltx_core.specs.declared.kind.Kind.{Kind}
 use Rattle.ltx_core.specs.declared.kind.Kind.TheVariants as kinds

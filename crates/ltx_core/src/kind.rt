@@ -1,7 +1,7 @@
 //! The kind of an open transaction, with its number and its notes.
 
 ghost use Rattle.std.specs.Prelude.{◌≡◌, ◌<◌, nat_le, [], ◌∷◌, length, OnOk, OnErr, IfOk, List, Some, None};
-ghost use Rattle.ltx_model.specs.Answers.{most_operations};
+ghost use Rattle.ltx_model.specs.Limits.{most_operations};
 ghost use Rattle.ltx_model.specs.NoteLists.{no_notes, with_note, at_mark};
 ghost use Rattle.ltx_model.specs.Notes.{AreNotes};
 ghost use Rattle.ltx_model.specs.States.{Step};

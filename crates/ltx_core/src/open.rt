@@ -7,7 +7,7 @@ ghost use Rattle.std.specs.Prelude.{◌≡◌, ◌<◌, ◌≤◌, true, [], ◌
 ghost use Rattle.ltx_model.specs.declared.commands.Op.TheVariants.{Get, Scan};
 ghost use Rattle.ltx_model.specs.declared.looked.Reach.TheVariants.{Nothing};
 ghost use Rattle.ltx_model.specs.declared.replies.Reply.TheVariants.{Done, LimitOps};
-ghost use Rattle.ltx_model.specs.Answers.{most_operations};
+ghost use Rattle.ltx_model.specs.Limits.{most_operations};
 ghost use Rattle.ltx_model.specs.Keys.{IsRising, put_in_order};
 ghost use Rattle.ltx_model.specs.NoteLists.{no_notes, with_note, at_mark};
 ghost use Rattle.ltx_model.specs.Notes.{AreNotes};

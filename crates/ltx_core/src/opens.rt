@@ -1,7 +1,7 @@
 //! The open transactions, each at the number of its session, so that none is searched for.
 
 ghost use Rattle.std.specs.Prelude.{◌≡◌, ◌≤◌, ◌<◌, ℕ, [], length, is_some, IfOk, OnOk, OnErr, Some, None, option_copied};
-ghost use Rattle.ltx_model.specs.Answers.{most_operations};
+ghost use Rattle.ltx_model.specs.Limits.{most_operations};
 ghost use Rattle.ltx_model.specs.declared.replies.Reply.TheVariants.{NoTx, LimitOps};
 ghost use Rattle.ltx_core.specs.Views.{OpenView};
 ghost use Rattle.ltx_core.specs.Slots.{opened, HasAt};

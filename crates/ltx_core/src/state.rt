@@ -5,7 +5,7 @@
 
 ghost use Rattle.std.specs.Prelude.{◌≡◌, [], ℕ, List, IfOk, is_some};
 ghost use Rattle.ltx_model.specs.declared.replies.Entry.{Entry};
-ghost use Rattle.ltx_model.specs.States.{Base, IsSound, base_of, active_of, latest, order};
+ghost use Rattle.ltx_model.specs.States.{Base, base_of, active_of, latest, order};
 ghost use Rattle.ltx_model.specs.Histories.{state};
 ghost use Rattle.ltx_store.specs.Kept.{latest_rows};
 ghost use Rattle.ltx_core.specs.Stands.{StandsFor};
@@ -47,19 +47,19 @@ impl Model for Core {
 
 impl Core {
     /// A core that has answered nothing yet, over these rows, this durable epoch and this last number.
-    /// A base whose numbers are past their bounds is none that a log gives; they are cut to the bounds.
     pub fn new(alloc: Global, base: Recovered) -> Result<Core, NoMemory>
-        ensures stands { IfOk result (λ core. (gate : ℕ) → IsSound (base_of base gate) → StandsFor core (base_of base gate) []) }
+        ensures stands { IfOk result (λ core. (gate : ℕ) → StandsFor core (base_of base gate) []) }
     {
-        let durable = base.epoch.min(LAST_EPOCH - 1);
+        let durable = base.epoch();
+        let last = base.last();
         Ok(Core {
             alloc,
             epoch: durable + 1,
             durable,
-            last: base.last.min(Tx::LAST),
+            last,
             order: Vec::new(alloc),
             commits: 0,
-            store: load(alloc, base.rows)?,
+            store: load(alloc, base.into_rows())?,
             opens: Opens::new(alloc),
         })
     }

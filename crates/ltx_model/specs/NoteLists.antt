@@ -6,7 +6,7 @@ use Rattle.ltx_model.specs.declared.notes.Run.{Run}
 use Rattle.ltx_model.specs.declared.looked.Reach.{Reach}
 use Rattle.ltx_model.specs.declared.looked.Reach.TheVariants.{Nothing, Point, Range}
 use Rattle.ltx_model.specs.Tables.{has_table}
-use Rattle.ltx_model.specs.Answers.{most_operations}
+use Rattle.ltx_model.specs.Limits.{most_operations}
 
 -- notes in order, the mark of each, and the mark of those to come
 pub record NoteList : Type 0 where

@@ -9,7 +9,7 @@ ghost use Rattle.std.specs.Prelude.{◌≡◌, ◌<◌, ◌≤◌, ℕ, List, []
 ghost use Rattle.std.specs.List.{list_any};
 ghost use Rattle.ltx_model.specs.Tables.{has_table};
 ghost use Rattle.ltx_model.specs.declared.looked.Reach.TheVariants.{Nothing, Point, Range};
-ghost use Rattle.ltx_model.specs.Answers.{most_operations};
+ghost use Rattle.ltx_model.specs.Limits.{most_operations};
 ghost use Rattle.ltx_model.specs.NoteLists.{no_notes, with_note, at_mark, is_of_table, looks_into_table};
 
 use crate::bytes::{Bound, Key};

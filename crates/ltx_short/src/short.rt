@@ -2,7 +2,7 @@
 
 ghost use Rattle.std.specs.Prelude.{◌≡◌, ◌<◌, ◌≤◌, ℕ, List, [], ◌∷◌, ◌++◌, length, OnOk, OnErr, Some, None};
 ghost use Rattle.std.specs.List.{list_any};
-ghost use Rattle.ltx_model.specs.Answers.{most_operations};
+ghost use Rattle.ltx_model.specs.Limits.{most_operations};
 ghost use Rattle.ltx_model.specs.NoteLists.{no_notes, is_of_table, looks_into_table};
 ghost use Rattle.ltx_model.specs.Tables.{has_table};
 ghost use Rattle.ltx_model.specs.declared.looked.Reach.TheVariants.{Nothing, Point, Range};

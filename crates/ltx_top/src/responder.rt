@@ -19,7 +19,6 @@ use ltx_core::Core;
 use ltx_model::base::Recovered;
 use ltx_model::commands::Line;
 use ltx_model::memory::NoMemory;
-use ltx_model::rows::StoredList;
 use ltx_outside::Sink;
 use ltx_script::parse::parse_line;
 use std::alloc::Global;
@@ -42,14 +41,9 @@ impl Responder {
         ensures text { IfOk result (λ r. r.text.items ≡ []) }
         ensures malformed { IfOk result (λ r. r.malformed ≡ false) }
     {
-        let base = Recovered {
-            rows: StoredList::from_vec(Vec::new(alloc)),
-            epoch: 0,
-            last: 0,
-        };
         Ok(Responder {
             alloc,
-            core: Core::new(alloc, base)?,
+            core: Core::new(alloc, Recovered::blank(alloc))?,
             text: Vec::new(alloc),
             malformed: false,
         })

@@ -1,5 +1,5 @@
 use Rattle.std.proofs.Common.{◌≡◌, ◌==◌, true, false, rules}
-use Rattle.ltx_model.specs.Answers.{last_epoch}
+use Rattle.ltx_model.specs.Limits.{last_epoch}
 use Rattle.ltx_core.proofs.FromFields.{advance_full_from, advance_done_from}
 use Rattle.ltx_core.proofs.state.Core.advance.Goals as goal
 
