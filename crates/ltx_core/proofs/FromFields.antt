@@ -1,5 +1,5 @@
 -- What the fields of a core say of an event, as a step of it. The first of two cores is the second one, by its fields.
-use Rattle.std.proofs.Common.{◌≡◌, ℕ, ◌+◌, ◌<◌, ◌≤◌, Bool, true, false, ◌==◌, List, [], ◌∷◌, ◌++◌, length, nat_le, Option, Some, None, is_some, Result, Ok, Err, IfOk, OnErr, refl, sym, ap, ◌∙◌, subst, arith}
+use Rattle.std.proofs.Common.{◌≡◌, ◌⊎◌, inl, inr, ℕ, ◌+◌, ◌<◌, ◌≤◌, Bool, true, false, ◌==◌, List, [], ◌∷◌, ◌++◌, length, nat_le, Option, Some, None, is_some, Result, Ok, Err, IfOk, OnErr, refl, sym, ap, ◌∙◌, subst, arith}
 use Rattle.std.proofs.lemmas.Bool.{eqb-true, eq-eqb}
 use Rattle.ltx_model.specs.declared.commands.Command.TheVariants as commands
 use Rattle.ltx_model.specs.declared.commands.Verb.TheVariants as verbs
@@ -48,6 +48,11 @@ on_err P p (Err e) = p
 pub on_err_so : {T E : Type 0} (P Q : Type 0) → (P → Q) → (r : Result T E) → OnErr r P → OnErr r Q
 on_err_so P Q f (Ok x) p = tt
 on_err_so P Q f (Err e) p = f p
+
+-- a number after which there is none is the last one
+pub last_is : (n : ℕ) → ((n + 1 ≡ 0) ⊎ (last_number < n + 1)) → n ≤ last_number → n ≡ last_number
+last_is n (inl wrong) within = omega arith
+last_is n (inr above) within = omega arith
 
 -- one is there, or none is
 there_is : (o : Option OpenView) → is_some o ≡ true → (a : OpenView) × (o ≡ Some a)

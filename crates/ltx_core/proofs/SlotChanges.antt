@@ -2,7 +2,7 @@
 use Rattle.std.proofs.Common.{◌≡◌, ℕ, zero, suc, ◌<◌, ◌≤◌, Bool, true, false, ◌==◌, List, [], ◌∷◌, ◌++◌, length, get_or, set, Option, Some, None, is_some, refl, sym, ap, ◌∙◌, subst, arith}
 use Rattle.std.specs.Prelude.{slice_get}
 use Rattle.std.specs.List.{AllByRecursion}
-use Rattle.std.proofs.lemmas.Bool.{eqb-true}
+use Rattle.std.proofs.lemmas.Bool.{eqb-true, eq-eqb, ne_eqb}
 use Rattle.std.proofs.lemmas.List.{set-get_or}
 use Rattle.ltx_model.specs.declared.commands.Op.{Op}
 use Rattle.ltx_model.specs.declared.replies.Reply.{Reply}
@@ -34,7 +34,7 @@ others_set [] place n x apart = refl
 others_set (s ∷ ss) zero zero x apart = absurd (true_false apart)
 others_set (s ∷ ss) zero (suc n) x apart = refl
 others_set (s ∷ ss) (suc place) zero x apart = refl
-others_set (s ∷ ss) (suc place) (suc n) x apart = others_set ss place n x apart
+others_set (s ∷ ss) (suc place) (suc n) x apart = others_set ss place n x (ne_eqb n place (λ e. true_false (sym (eq-eqb (suc n) (suc place) (ap suc e)) ∙ apart)))
 
 pub slot_set : (slots : List (Option OpenView)) (place : ℕ) (x : Option OpenView) → place < length slots → HasAt slots place x (set slots place x)
 slot_set slots place x within = record { here = here_set slots place x within; others = λ n apart. others_set slots place n x apart }

@@ -43,7 +43,8 @@ impl Core {
         match command {
             Command::Ask(session, verb) => self.serve(*session, verb),
             Command::Epoch => Ok(self.advance()),
-            Command::Flush | Command::Prune => Ok(Reply::Later),
+            Command::Flush => Ok(Reply::Later),
+            Command::Prune => Ok(Reply::Later),
         }
     }
 

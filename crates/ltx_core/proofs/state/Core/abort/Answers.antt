@@ -1,6 +1,7 @@
 use Rattle.std.proofs.Common.{◌≡◌, ap, sym, ◌∙◌}
 use Rattle.ltx_core.proofs.FromFields.{abort_reply, aborted_from}
 use Rattle.ltx_core.proofs.state.Core.abort.Goals as goal
+use Rattle.ltx_core.proofs.state.Core.abort.Goals.{in-Some, in-None}
 
 pub returns : goal.returns
 returns c =
