@@ -1,5 +1,5 @@
 use Rattle.std.proofs.Common.{◌≡◌, ◌<◌, ◌+◌, arith}
-use Rattle.ltx_model.specs.Answers.{last_number}
+use Rattle.ltx_model.specs.Limits.{last_number}
 use Rattle.ltx_core.proofs.FromFields.{last_is, begin_has_from, begin_full_from, begin_done_from}
 use Rattle.ltx_core.proofs.state.Core.begin.Goals as goal
 
