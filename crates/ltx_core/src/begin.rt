@@ -13,7 +13,7 @@ use ltx_model::numbers::{Session, Tx};
 use ltx_model::replies::Reply;
 
 impl Core {
-    // A short begins, where the session has no open transaction and there is a number left.
+    /// A short begins, where the session has no open transaction and there is a number left.
     pub(crate) fn begin(&mut self, session: Session) -> Result<Reply, NoMemory>
         ensures ok { IfOk result (λ reply. Steps self.old (Ask session verbs.Short) reply self.new) }
         ensures err { OnErr result (IsSame self.old self.new) }

@@ -22,7 +22,7 @@ use ltx_model::replies::Reply;
 use ltx_validate::check::Verdict;
 
 impl Core {
-    // The session's short commits, or is refused by its first look-up that has changed.
+    /// The session's short commits, or is refused by its first look-up that has changed.
     pub(crate) fn commit(&mut self, session: Session) -> Result<Reply, NoMemory>
         ensures ok { IfOk result (λ reply. Steps self.old (Ask session verbs.Commit) reply self.new) }
         ensures err { OnErr result (IsSame self.old self.new) }
@@ -51,7 +51,7 @@ impl Core {
         }
     }
 
-    // Commits the session's short. All memory is taken before the first change.
+    /// Commits the session's short. All memory is taken before the first change.
     fn accept(&mut self, session: Session) -> Result<Reply, NoMemory>
         ensures reply { IfOk result (λ reply. (a : OpenView) → opened self.old.opens session ≡ Some a → reply ≡ Committed self.old.counters.epoch) }
         ensures ok { IfOk result (λ reply. (a : OpenView) → opened self.old.opens session ≡ Some a → HasCommitted self.old session a self.new) }

@@ -9,7 +9,7 @@ use ltx_model::numbers::Session;
 use ltx_model::replies::Reply;
 
 impl Core {
-    // The session's open transaction is given up.
+    /// The session's open transaction is given up.
     pub(crate) fn abort(&mut self, session: Session) -> Reply
         ensures { Steps self.old (Ask session Abort) result self.new }
     {

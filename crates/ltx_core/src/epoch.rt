@@ -7,7 +7,7 @@ use crate::state::{Core, LAST_EPOCH};
 use ltx_model::replies::Reply;
 
 impl Core {
-    // The next epoch, where there is one.
+    /// The next epoch, where there is one.
     pub(crate) fn advance(&mut self) -> Reply
         ensures { Steps self.old Epoch result self.new }
     {

@@ -117,7 +117,7 @@ impl Open {
         self.answer(alloc, store, mark, op)
     }
 
-    // The operation, whose notes are of the mark.
+    /// The operation, whose notes are of the mark.
     fn answer(
         &mut self,
         alloc: Global,
@@ -146,7 +146,7 @@ impl Open {
         }
     }
 
-    // Gets the key's value: that of the own write, or else that of the version seen at the mark.
+    /// Gets the key's value: that of the own write, or else that of the version seen at the mark.
     fn get(&mut self, store: &Store, mark: u64, table: Table, key: &Key) -> Result<Reply, NoMemory>
         requires limit { length self.old.notes.notes < most_operations }
         requires marked { self.old.notes.mark ≡ mark }
@@ -165,7 +165,7 @@ impl Open {
         Ok(reply)
     }
 
-    // Scans a range of the table: the rows at the mark, with the own writes over them.
+    /// Scans a range of the table: the rows at the mark, with the own writes over them.
     fn scan(
         &mut self,
         alloc: Global,
@@ -190,7 +190,7 @@ impl Open {
         })
     }
 
-    // Notes the write and keeps it with the own ones.
+    /// Notes the write and keeps it with the own ones.
     fn write(&mut self, write: Write) -> Result<Reply, NoMemory>
         requires limit { length self.old.notes.notes < most_operations }
         ensures answer { IfOk result (λ reply. reply ≡ Done) }
@@ -206,7 +206,7 @@ impl Open {
     }
 }
 
-// What a get answers of the value.
+/// What a get answers of the value.
 fn answer_of(value: Option<&Value>) -> Result<Reply, NoMemory>
     ensures { IfOk result (λ reply. reply ≡ answered (option_copied value.entry)) }
 {
@@ -218,7 +218,7 @@ fn answer_of(value: Option<&Value>) -> Result<Reply, NoMemory>
     }
 }
 
-// What a get answers of the version that it sees.
+/// What a get answers of the version that it sees.
 fn answer_by(seen: Option<&Version>) -> Result<Reply, NoMemory>
     ensures { IfOk result (λ reply. reply ≡ answered (put_by (option_copied seen.entry))) }
 {
@@ -228,7 +228,7 @@ fn answer_by(seen: Option<&Version>) -> Result<Reply, NoMemory>
     }
 }
 
-// The look of the key by the version that is seen.
+/// The look of the key by the version that is seen.
 fn look_by(key: &Key, seen: Option<&Version>) -> Result<Option<Look>, NoMemory>
     ensures { IfOk result (λ look. look ≡ look_of_version key.now (option_copied seen.entry)) }
 {

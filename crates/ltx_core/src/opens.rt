@@ -119,7 +119,7 @@ impl Opens {
     }
 }
 
-// An operation of the open transaction of a slot.
+/// An operation of the open transaction of a slot.
 fn operate_in(
     slot: &mut Option<Open>,
     alloc: Global,

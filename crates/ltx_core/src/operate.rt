@@ -13,7 +13,7 @@ use ltx_model::numbers::Session;
 use ltx_model::replies::Reply;
 
 impl Core {
-    // An operation of the session's short: its reply, by its own operations over the latest rows.
+    /// An operation of the session's short: its reply, by its own operations over the latest rows.
     pub(crate) fn operate(&mut self, session: Session, op: &Op) -> Result<Reply, NoMemory>
         ensures ok { IfOk result (λ reply. Steps self.old (Ask session (Do op.now)) reply self.new) }
         ensures err { OnErr result (IsSame self.old self.new) }

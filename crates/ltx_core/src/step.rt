@@ -34,7 +34,7 @@ impl Core {
         self.apply(command)
     }
 
-    // A command, by what it is.
+    /// A command, by what it is.
     fn apply(&mut self, command: &Command) -> Result<Reply, NoMemory>
         ensures ok { IfOk result (λ reply. Steps self.old command.now reply self.new) }
         ensures ready { takes_no_memory command.now ≡ true → IsOk result }
@@ -48,7 +48,7 @@ impl Core {
         }
     }
 
-    // What a session asks.
+    /// What a session asks.
     fn serve(&mut self, session: Session, verb: &Verb) -> Result<Reply, NoMemory>
         ensures ok { IfOk result (λ reply. Steps self.old (Ask session verb.now) reply self.new) }
         ensures ready { is_abort verb.now ≡ true → IsOk result }
