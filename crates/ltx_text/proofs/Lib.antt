@@ -1,4 +1,5 @@
 pub mod BlockLemmas
+pub mod LineAsks
 pub mod DecimalLemmas
 pub mod LineGiven
 pub mod LineLemmas
