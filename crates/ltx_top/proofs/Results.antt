@@ -95,12 +95,12 @@ module _ (before after : Option (List ℕ)) (reads0 reads1 : Option Reads) (w0 w
       )
 
 -- the end of what was taken is the source's
-pub took_ended : (r : Result Piece Stop) (before after : Option (List ℕ)) (next : LinesState) → Knows next after → IfOk r (λ piece. OnEnd (Ok piece) ((next.held ≡ []) × (next.ended ≡ true)))
+pub took_ended : (r : Result Piece Stop) (after : Option (List ℕ)) (next : LinesState) → Knows next after → IfOk r (λ piece. OnEnd (Ok piece) ((next.held ≡ []) × (next.ended ≡ true)))
     → IfOk r (λ piece. OnEnd (Ok piece) ((next.held ≡ []) × IsAtEnd after))
-took_ended (Err stop) before after next knows ended = tt
-took_ended (Ok (pieces.Line line)) before after next knows ended = tt
-took_ended (Ok pieces.TooLong) before after next knows ended = tt
-took_ended (Ok pieces.End) before after next knows ended = (ended.0, knows ended.1)
+took_ended (Err stop) after next knows ended = tt
+took_ended (Ok (pieces.Line line)) after next knows ended = tt
+took_ended (Ok pieces.TooLong) after next knows ended = tt
+took_ended (Ok pieces.End) after next knows ended = (ended.0, knows ended.1)
 
 pub took_calm : {T : Type 0} (r : Result T Stop) (s s' k k' : ℕ) → k' ≡ k → ((IsErrOf r stops.Source → ⊥) → s' ≡ s) → OnOk r ((s' ≡ s) × (k' ≡ k))
 took_calm (Ok x) s s' k k' same calm = (calm (λ e. cc), same)

@@ -110,7 +110,8 @@ asked_more start left0 left1 reads0 reads1 w w' reader next given n failed cuts 
       | inl held ↦
           let same = quiet held in
           let is : a ≡ m = cc in
-          subst (λ (k : ℕ). feeds (take k bytes) ≤ n) (λ i. same.1 (~ i) - (is (~ i)).last) kept
+          let there : next.taken - a.last ≡ reader.taken - m.last = (λ i. same.1 i - (is i).last) in
+          subst (λ (k : ℕ). feeds (take k bytes) ≤ n) (sym there) kept
       | inr nothing ↦ feeds_before reader next bytes left0 given a.last n cuts many (omega (arith, nothing)) later none
     ]
 
@@ -135,7 +136,7 @@ asked_on start now reader n m failed less asked = by_start start.left start.read
         → IfSome before (λ b. IsSomeAnd after (λ a. (a.calls ≤ b.calls + reader.taken + ends reader + failed) × IfSome old (λ bytes. feeds (take (reader.taken - a.last) bytes) ≤ m)))
     by_start old None after p = tt
     by_start old (Some b) None p = absurd p
-    by_start old (Some b) (Some a) p = (p.0, more old a.last p.1)
+    by_start old (Some b) (Some a) p = (p.0, more old (reader.taken - a.last) p.1)
 
 pub ends_most : (reader : LinesState) → ends reader ≤ 1
 ends_most reader = grind arith
