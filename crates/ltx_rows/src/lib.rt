@@ -444,6 +444,19 @@ mod tests {
         ),
     ];
 
+    const SHUFFLED: &[Part] = &[
+        (
+            1,
+            10_001,
+            &[
+                ("1 short", "begun #"),
+                ("1 put 0 @ v", "done"),
+                ("1 commit", "committed 1"),
+            ],
+        ),
+        (10_001, 10_002, &[("1 short", "begun #")]),
+    ];
+
     /// Whether a run of this script, of which a read gives so much, ends at this status and prints this text.
     fn gives(
         alloc: Global,
@@ -469,20 +482,24 @@ mod tests {
             put_ending(&mut text, *order)?;
             assert!(rt; gives(alloc, &script, 100_000, 0, &text)?);
         }
-        // Rows in random order, and a scan of them all.
+        // Commits of 10,000 rows in random order, a scan of 2,000 of them, and a read of each.
         let mut script = Vec::new(alloc);
         let mut text = Vec::new(alloc);
-        put_part(&mut script, &mut text, &(0, 1, &[("1 short", "begun 1")]))?;
-        put_part(&mut script, &mut text, &(0, 10_000, &[("1 put 0 @ v", "done")]))?;
-        put_part(&mut script, &mut text, &(0, 1, &[("1 commit", "committed 1"), ("1 short", "begun 2")]))?;
+        for part in SHUFFLED {
+            put_part(&mut script, &mut text, part)?;
+        }
         put_line(&mut script, "1 scan 0 % 02000")?;
         text.extend_from_slice(b"1 scan 0 % 02000 => rows 2000")?;
         for n in 0..2_000 {
             put_with(&mut text, " $ v", n)?;
         }
         text.push(b'\n')?;
-        put_part(&mut script, &mut text, &(0, 10_000, &[("1 get 0 $", "found v")]))?;
-        put_ending(&mut text, 1)?;
+        put_part(
+            &mut script,
+            &mut text,
+            &(0, 10_000, &[("1 get 0 $", "found v")]),
+        )?;
+        put_ending(&mut text, 10_000)?;
         assert!(rt; gives(alloc, &script, 100_000, 0, &text)?);
         Ok(())
     }
