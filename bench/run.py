@@ -1,22 +1,23 @@
 #!/usr/bin/env python3
 """Runs the workloads of scripts.py through the program and prints a table.
 
-usage: run.py PROGRAM [quick]
+usage: run.py PROGRAM [quick] [sqlite]
 
 PROGRAM is what the gate leaves at crates/ltx_run/out/ltx_run. Costs are instructions under valgrind's callgrind, less
-those of the rows that a workload loads first; a workload of 1,000,000 rows is measured by processor time alone. Under the
-row of 1,000 lines a transaction stands what of its cost lies outside the core: reader, parser, printer and the end of the
-run. `quick` leaves out what takes minutes.
+those of the rows that a workload loads first; a workload of 1,000,000 rows is measured by processor time and peak of
+memory alone. Under the row of 1,000 lines a transaction stands what of its cost lies outside the core: reader, parser,
+printer and the end of the run. `quick` leaves out what takes minutes. `sqlite` adds the same script's cost through
+SQLite's C library (sqlite.c, built here where the library is installed), in memory, with prepared statements.
 """
 import os
 import re
-import resource
 import subprocess
 import sys
 import tempfile
 
 from scripts import script
 
+HERE = os.path.dirname(os.path.abspath(__file__))
 TABLE = [
     # name, workload, counts, what a unit is
     ("three lines", "lines", (10_000, 30_000, 100_000), "transaction"),
@@ -25,9 +26,16 @@ TABLE = [
     ("load in rising order", "rising", (10_000, 100_000), "row"),
     ("load in random order", "random", (10_000, 100_000), "row"),
     ("scan of 100 rows of 100,000", "scans", (1_000, 10_000), "transaction"),
+    ("get, scan of 100, put; 100,000 rows", "mixed", (1_000, 10_000), "transaction"),
+    ("a get among 100,000 rows", "gets", (10_000, 100_000), "get"),
+    ("transfers; 1,000 rows; sums", "transfers", (10_000, 100_000), "transfer"),
+    ("two sessions side by side; 1,000 keys", "beside", (10_000, 100_000), "pair"),
     ("get and put, 1,000 lines a transaction", "talk", (100_000,), "line"),
 ]
 TIMED = [("load in rising order", "rising", 1_000_000), ("load in random order", "random", 1_000_000)]
+LOADED = ("pairs-big", "scans", "mixed", "gets")
+# two sessions at once are two connections, which a database in memory does not have
+NOT_IN_SQLITE = ("beside",)
 
 
 def write(folder, workload, count):
@@ -38,7 +46,7 @@ def write(folder, workload, count):
 
 
 def instructions(program, path, folder):
-    words = ["valgrind", "--tool=callgrind", f"--callgrind-out-file={folder}/out", program, "run"]
+    words = ["valgrind", "--tool=callgrind", f"--callgrind-out-file={folder}/out", *program]
     with open(path) as source:
         done = subprocess.run(words, stdin=source, stdout=subprocess.DEVNULL, stderr=subprocess.PIPE, text=True)
     if done.returncode != 0:
@@ -50,36 +58,61 @@ def in_core(folder):
     """The instructions of the last run that were spent in the core and below it."""
     words = ["callgrind_annotate", "--inclusive=yes", f"{folder}/out"]
     text = subprocess.run(words, capture_output=True, text=True).stdout
-    costs = re.findall(r"^ *([\d,]+) .*:ltx_core::step::Core::", text, flags=re.M)
+    costs = re.findall(r"^ *([\d,]+) .*:ltx_core::\w+::Core::", text, flags=re.M)
     return max((int(cost.replace(",", "")) for cost in costs), default=0)
 
 
-def seconds(program, path):
-    before = resource.getrusage(resource.RUSAGE_CHILDREN).ru_utime
+def resources(program, path):
+    """The processor time of a run in seconds, and its peak of memory in bytes."""
     with open(path) as source:
-        subprocess.run([program, "run"], stdin=source, stdout=subprocess.DEVNULL, check=True)
-    return resource.getrusage(resource.RUSAGE_CHILDREN).ru_utime - before
+        run = subprocess.Popen(program, stdin=source, stdout=subprocess.DEVNULL)
+    _, status, used = os.wait4(run.pid, 0)
+    if status != 0:
+        sys.exit(f"{path}: status {status}")
+    return used.ru_utime, used.ru_maxrss * 1024
+
+
+def sqlite(folder):
+    """The words that run a script through SQLite, or None where its library is not installed."""
+    program = os.path.join(folder, "sqlite")
+    built = subprocess.run(["cc", "-O2", "-o", program, os.path.join(HERE, "sqlite.c"), "-lsqlite3"], capture_output=True)
+    return [program] if built.returncode == 0 else None
+
+
+def costs(program, folder, table):
+    """The instructions a unit of each row, by workload and count."""
+    loaded = instructions(program, write(folder, "base", 0), folder)
+    for name, workload, counts, unit in table:
+        for count in counts:
+            total = instructions(program, write(folder, workload, count), folder)
+            yield name, workload, count, unit, (total - (loaded if workload in LOADED else 0)) / count, total
+
+
+def print_costs(program, folder, table):
+    print(f"{'workload':42} {'count':>9} {'instructions a unit':>22} {'growth':>7}")
+    first = {}
+    for name, workload, count, unit, each, total in costs(program, folder, table):
+        first.setdefault(workload, each)
+        print(f"{name:42} {count:9} {each:12.0f} a {unit[:11]:11} {each / first[workload]:6.2f}", flush=True)
+        if workload == "talk" and len(program) > 1:
+            print(f"{'  of it outside the core':52} {(total - in_core(folder)) / count:12.0f} a {unit}", flush=True)
 
 
 def main():
     if len(sys.argv) < 2:
         sys.exit(__doc__)
-    program, quick = os.path.abspath(sys.argv[1]), "quick" in sys.argv[2:]
+    program, quick = [os.path.abspath(sys.argv[1]), "run"], "quick" in sys.argv[2:]
+    table = [(name, workload, counts[:1], unit) if quick else (name, workload, counts, unit) for name, workload, counts, unit in TABLE]
     with tempfile.TemporaryDirectory() as folder:
-        loaded = instructions(program, write(folder, "base", 0), folder)
-        print(f"{'workload':42} {'count':>9} {'instructions a unit':>20} {'growth':>7}")
-        for name, workload, counts, unit in TABLE:
-            first = None
-            for count in counts[:1] if quick else counts:
-                total = instructions(program, write(folder, workload, count), folder)
-                each = (total - (loaded if workload in ("pairs-big", "scans") else 0)) / count
-                first = first or each
-                print(f"{name:42} {count:9} {each:12.0f} a {unit[:11]:11} {each / first:6.2f}", flush=True)
-                if workload == "talk":
-                    print(f"{'  of it outside the core':52} {(total - in_core(folder)) / count:12.0f} a {unit}", flush=True)
+        print_costs(program, folder, table)
         for name, workload, count in [] if quick else TIMED:
-            took = seconds(program, write(folder, workload, count))
-            print(f"{name:42} {count:9} {1e6 * took / count:12.2f} microseconds a row", flush=True)
+            took, peak = resources(program, write(folder, workload, count))
+            print(f"{name:42} {count:9} {1e6 * took / count:12.2f} microseconds a row, {peak / count:.0f} bytes of memory", flush=True)
+        if "sqlite" in sys.argv[2:]:
+            other = sqlite(folder)
+            print("\nthe same through SQLite" if other else "\nSQLite's library is not installed")
+            if other:
+                print_costs(other, folder, [row for row in table if row[1] not in NOT_IN_SQLITE])
 
 
 main()

@@ -9,8 +9,13 @@ usage: scripts.py WORKLOAD COUNT [SEED]
   rising   loads COUNT rows in rising key order, 100 rows a transaction
   random   loads COUNT rows in random key order, 100 rows a transaction
   scans    COUNT transactions with one scan of 100 rows of 100,000, which are loaded first
+  mixed    COUNT transactions of one get, one scan of 100 rows and one put on 100,000 rows, which are loaded first
+  gets     COUNT gets among 100,000 rows, which are loaded first, 100 a transaction
+  transfers  COUNT transactions of two gets and two puts on 1,000 rows, and after each 1,000 of them a sum: a short
+           that scans all rows and puts one more
+  beside   COUNT pairs of transactions of one get and one put on 1,000 keys, the two of a pair side by side in two sessions
   talk     COUNT lines: 1 short, 998 lines of get and put on 1,000 keys, 1 commit, again and again
-  base     the 100,000 rows alone that pairs-big and scans load first
+  base     the 100,000 rows alone that pairs-big, scans, mixed and gets load first
 """
 import random
 import sys
@@ -46,6 +51,44 @@ def scans(out, count, draw):
         out.append("1 commit")
 
 
+def mixed(out, count, draw):
+    for turn in range(count):
+        low = draw.randrange(BIG - 100)
+        out.append("1 short")
+        out.append(f"1 get 0 {key(draw.randrange(BIG))}")
+        out.append(f"1 scan 0 {key(low)} {key(low + 100)}")
+        out.append(f"1 put 0 {key(draw.randrange(BIG))} v{turn}")
+        out.append("1 commit")
+
+
+def gets(out, count, draw):
+    for start in range(0, count, 100):
+        out.append("1 short")
+        out.extend(f"1 get 0 {key(draw.randrange(BIG))}" for _ in range(min(100, count - start)))
+        out.append("1 commit")
+
+
+def transfers(out, count, draw):
+    load(out, list(range(SMALL)))
+    for turn in range(count):
+        one, other = key(draw.randrange(SMALL)), key(draw.randrange(SMALL))
+        out.append("1 short")
+        out.extend(f"1 get 0 {account}" for account in (one, other))
+        out.extend(f"1 put 0 {account} v{turn}" for account in (one, other))
+        out.append("1 commit")
+        if turn % 1_000 == 999:
+            out.extend(["1 short", "1 scan 0 % %", f"1 put 1 sum v{turn}", "1 commit"])
+
+
+def beside(out, count, draw):
+    for turn in range(count):
+        names = [key(draw.randrange(SMALL)) for _ in range(4)]
+        out.extend(["1 short", "2 short"])
+        out.extend([f"1 get 0 {names[0]}", f"2 get 0 {names[1]}"])
+        out.extend([f"1 put 0 {names[2]} v{turn}", f"2 put 0 {names[3]} w{turn}"])
+        out.extend(["1 commit", "2 commit"])
+
+
 def talk(out, count, draw):
     while len(out) < count:
         out.append("1 short")
@@ -74,6 +117,16 @@ def script(workload, count, seed):
     elif workload == "scans":
         load(out, list(range(BIG)))
         scans(out, count, draw)
+    elif workload == "mixed":
+        load(out, list(range(BIG)))
+        mixed(out, count, draw)
+    elif workload == "gets":
+        load(out, list(range(BIG)))
+        gets(out, count, draw)
+    elif workload == "transfers":
+        transfers(out, count, draw)
+    elif workload == "beside":
+        beside(out, count, draw)
     elif workload == "base":
         load(out, list(range(BIG)))
     elif workload == "talk":

@@ -7,10 +7,11 @@ use Rattle.ltx_model.specs.declared.writes.Write.{Write}
 use Rattle.ltx_model.specs.Keys.{Cell, same_cell, IsRising}
 use Rattle.ltx_model.specs.StoredRows.{cell_of, row_at}
 use Rattle.ltx_model.specs.Operations.{cell_of_write, is_write_at, writes_at, writes_key, write_of, put_write, writes_after, writes_of}
-use Rattle.ltx_model.specs.Rows.{rows_after_all}
-use Rattle.ltx_lemmas.specs.Writes.{rows_after_put, rows_after_writes}
-use Rattle.ltx_lemmas.proofs.Cells.{item_at-put, row_at-put, row_at-without, same_cell_same}
-use Rattle.ltx_lemmas.proofs.Rising.{absent}
+use Rattle.ltx_model.specs.Rows.{rows_after_all, rows_after_put, rows_after_writes}
+use Rattle.ltx_model.proofs.ItemsAt.{item_at-put}
+use Rattle.ltx_model.proofs.RowsAt.{row_at-put, row_at-without}
+use Rattle.ltx_model.proofs.CellOrder.{same_cell_same}
+use Rattle.ltx_model.proofs.Rising.{item_at-above}
 use Rattle.ltx_lemmas.proofs.LastWrites.{rising_writes, last_writes_give}
 use Rattle.ltx_buffer.specs.Own.{write_at, row_under}
 
@@ -51,7 +52,7 @@ row_after_writes tx rows [] q rising = refl
 row_after_writes tx rows (w ∷ ws) q rising =
     row_after_writes tx (rows_after_put tx rows (cell_of_write w) w.put) ws q rising.1 ∙ by_test (same_cell (cell_of_write w) q) refl where
       none : same_cell (cell_of_write w) q ≡ true → write_at ws q ≡ None
-      none e = subst (λ c. write_at ws c ≡ None) (same_cell_same (cell_of_write w) q e) (absent cell_of_write (cell_of_write w) ws rising.0)
+      none e = subst (λ c. write_at ws c ≡ None) (same_cell_same (cell_of_write w) q e) (item_at-above cell_of_write (cell_of_write w) ws rising.0)
 
       by_test : (b : Bool) → same_cell (cell_of_write w) q ≡ b
           → row_under tx (write_at ws q) (row_at (rows_after_put tx rows (cell_of_write w) w.put) q) ≡ row_under tx (cond b (Some w) (write_at ws q)) (row_at rows q)

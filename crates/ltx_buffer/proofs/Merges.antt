@@ -12,14 +12,12 @@ use Rattle.ltx_model.specs.declared.writes.Write.{Write}
 use Rattle.ltx_model.specs.Keys.{Cell, cell_cmp, same_cell, in_range, put_in_order, AreAbove, IsRising}
 use Rattle.ltx_model.specs.StoredRows.{cell_of}
 use Rattle.ltx_model.specs.Operations.{cell_of_write, write_of, put_write, writes_after, writes_of}
-use Rattle.ltx_model.specs.Rows.{without, row_of, rows_between, rows_after_all}
-use Rattle.ltx_lemmas.specs.Writes.{rows_after_put, rows_after_writes}
-use Rattle.ltx_lemmas.proofs.Cells.{same_cells, same_cell_same}
-use Rattle.ltx_lemmas.proofs.Rising.{above_later}
+use Rattle.ltx_model.specs.Rows.{without, row_of, rows_between, rows_after_all, rows_after_put, rows_after_writes}
+use Rattle.ltx_model.proofs.CellOrder.{same_cells, same_cell_same}
+use Rattle.ltx_model.proofs.Rising.{above_later, put_above}
 use Rattle.ltx_lemmas.proofs.LastWrites.{rising_after_writes, last_writes_give}
 use Rattle.ltx_buffer.specs.Own.{cell_in, rows_with, rows_under, is_between, merged}
-use Rattle.ltx_buffer.proofs.Rows.{put_first}
-use Rattle.ltx_buffer.proofs.Splits.{is_equal}
+use Rattle.ltx_model.proofs.Orderings.{is_equal}
 
 -- One operation more: its write goes to the writes of those before it.
 pub writes_of-push : (ws : List Write) (ops : List Op) (op : Op) → writes_after ws (ops ++ op ∷ []) ≡ put_write (write_of op) (writes_after ws ops)
@@ -44,7 +42,7 @@ module _ (table : ℕ) (low high : List ℕ) where
   holds_table : (c : Cell) → holds c ≡ true → c.table ≡ table
   holds_table c e = by_test (c.table == table) (in_range low high c.key) refl e where
     by_test : (b d : Bool) → (c.table == table) ≡ b → (b && d) ≡ true → c.table ≡ table
-    by_test true d is e = ranked c.table table Equal (is_equal (nat_cmp c.table table) (unsigned_tied c.table table ∙ is))
+    by_test true d is e = ranked c.table table Equal (sym (is_equal (nat_cmp c.table table) (unsigned_tied c.table table ∙ is)))
     by_test false d is e = cc
 
   -- the rows of the range
@@ -111,7 +109,7 @@ module _ (table : ℕ) (low high : List ℕ) where
     here = place_is r within
 
     in_front : (rows : List StoredRow) → AreAbove cell_of (cell_of r) rows → row_of r ∷ seen rows ≡ put_in_order (cell_in table) (row_of r) (seen rows)
-    in_front rows above = sym (put_first (cell_in table) (row_of r) (seen rows) (subst (λ c. AreAbove (cell_in table) c (seen rows)) (sym here) (above_seen (cell_of r) rows above)))
+    in_front rows above = sym (put_above (cell_in table) (row_of r) (seen rows) (subst (λ c. AreAbove (cell_in table) c (seen rows)) (sym here) (above_seen (cell_of r) rows above)))
 
     by_cmp : (o : Ordering) → cell_cmp (cell_of r) (cell_of y) ≡ o → seen (put_in_order cell_of r ys) ≡ put_in_order (cell_in table) (row_of r) (seen ys)
         → seen (put_in_order cell_of r (y ∷ ys)) ≡ put_in_order (cell_in table) (row_of r) (seen (y ∷ ys))

@@ -13,26 +13,9 @@ use Rattle.ltx_model.specs.declared.writes.Write.{Write}
 use Rattle.ltx_model.specs.Keys.{Cell, key_cmp, cell_cmp, same_cell, put_in_order, AreAbove, IsRising}
 use Rattle.ltx_buffer.specs.Own.{cell_in, rows_with, rows_under}
 use Rattle.ltx_buffer.specs.Places.{key_in, rows_put, begins_with}
-use Rattle.ltx_lemmas.proofs.Cells.{same_cells, cell_total, flip_greater, flip_less}
-use Rattle.ltx_lemmas.proofs.Rising.{above_later, rising_put, rising_filter}
-
-is_eq_equal : (o : Ordering) → is_eq o ≡ true → o ≡ Equal
-is_eq_equal Less e = cc
-is_eq_equal Equal e = refl
-is_eq_equal Greater e = cc
-
--- in one table keys stand as their bytes do
-pub in_one : (table : ℕ) (a b : List ℕ) → cell_cmp (record { table = table; key = a }) (record { table = table; key = b }) ≡ key_cmp a b
-in_one table a b = ap (λ o. ordering_then o (key_cmp a b)) (is_eq_equal (nat_cmp table table) ((eq_by_cmp_equiv nat_cmp_total).refl table))
-
--- an item before all others goes to the front
-pub put_first : {A : Type 0} (cell : A → Cell) (x : A) (ys : List A) → AreAbove cell (cell x) ys → put_in_order cell x ys ≡ x ∷ ys
-put_first cell x [] above = refl
-put_first cell x (y ∷ ys) above = rw above.0 refl
-
-none_there : {A : Type 0} (cell : A → Cell) (c : Cell) (ys : List A) → AreAbove cell c ys → filter (λ y. not (same_cell (cell y) c)) ys ≡ ys
-none_there cell c [] above = refl
-none_there cell c (y ∷ ys) above = rw (ap is_eq (flip_less c (cell y) above.0)) (ap (λ zs. y ∷ zs) (none_there cell c ys above.1))
+use Rattle.ltx_model.proofs.CellOrder.{same_cells, cell_turned, in_one_table}
+use Rattle.ltx_model.proofs.Rising.{above_later, rising_put, rising_filter, put_above, filter_above}
+use Rattle.ltx_model.proofs.Orderings.{is_equal}
 
 rows_put-cons : (w : Write) (ws : List Write) → rows_put (w ∷ ws) ≡ rows_put (w ∷ []) ++ rows_put ws
 rows_put-cons w ws = by_put w.put refl where
@@ -73,7 +56,7 @@ module _ (table : ℕ) where
   with_later : (x : Row) (rest : List Row) (key : List ℕ) (put : Option (List ℕ)) → cell_cmp (cell_in table x) (record { table = table; key = key }) ≡ Less
       → rows_with table (x ∷ rest) key put ≡ x ∷ rows_with table rest key put
   with_later x rest key None less = rw (ap is_eq less) refl
-  with_later x rest key (Some value) less = rw (flip_less (cell_in table x) (record { table = table; key = key }) less) refl
+  with_later x rest key (Some value) less = rw (cell_turned (cell_in table x) (record { table = table; key = key }) Less less) refl
 
   pub under_later : (x : Row) (rest : List Row) (ws : List Write) → AreAbove (key_in table) (cell_in table x) ws → rows_under table (x ∷ rest) ws ≡ x ∷ rows_under table rest ws
   under_later x rest [] above = refl
@@ -81,8 +64,8 @@ module _ (table : ℕ) where
 
   -- a key before all rows
   with_first : (w : Write) (rows : List Row) (put : Option (List ℕ)) → w.put ≡ put → AreAbove (cell_in table) (key_in table w) rows → rows_with table rows w.key put ≡ rows_put (w ∷ []) ++ rows
-  with_first w rows None e above = rw e (none_there (cell_in table) (key_in table w) rows above)
-  with_first w rows (Some value) e above = rw e (put_first (cell_in table) (record { key = w.key; value = value }) rows above)
+  with_first w rows None e above = rw e (filter_above (cell_in table) (key_in table w) rows above)
+  with_first w rows (Some value) e above = rw e (put_above (cell_in table) (record { key = w.key; value = value }) rows above)
 
   put_past : (w : Write) (ws : List Write) (rows : List Row) (put : Option (List ℕ)) → w.put ≡ put → AreAbove (key_in table) (key_in table w) ws
       → rows_under table (rows_put (w ∷ []) ++ rows) ws ≡ rows_put (w ∷ []) ++ rows_under table rows ws
@@ -104,7 +87,7 @@ module _ (table : ℕ) where
   under_before zero ws x rest rw' rx below = refl
   under_before (suc n) [] x rest rw' rx below = refl
   under_before (suc n) (w ∷ ws) x rest rw' rx below =
-      let less : cell_cmp (key_in table w) (cell_in table x) ≡ Less = in_one table w.key x.key ∙ below.0 in
+      let less : cell_cmp (key_in table w) (cell_in table x) ≡ Less = in_one_table table w.key x.key ∙ below.0 in
       under_first w ws (x ∷ rest) rw' (less, above_later (cell_in table) (key_in table w) (cell_in table x) rest less rx.0)
       ∙ ap (λ rs. rows_put (w ∷ []) ++ rs) (under_before n ws x rest rw'.1 rx below.1)
       ∙ sym (append_assoc (rows_put (w ∷ [])) (rows_put (take n ws)) (rows_under table (x ∷ rest) (drop n ws)))
@@ -113,20 +96,20 @@ module _ (table : ℕ) where
   -- a row that the first write hides
   with_same : (w : Write) (x : Row) (rest : List Row) (put : Option (List ℕ)) → w.put ≡ put → cell_cmp (key_in table w) (cell_in table x) ≡ Equal → AreAbove (cell_in table) (key_in table w) rest
       → rows_with table (x ∷ rest) w.key put ≡ rows_with table rest w.key put
-  with_same w x rest None e same above = rw (ap is_eq (cell_total.antisymm (cell_in table x) (key_in table w) ∙ ap ordering_reverse same)) refl
-  with_same w x rest (Some value) e same above = rw same (sym (put_first (cell_in table) (record { key = w.key; value = value }) rest above))
+  with_same w x rest None e same above = rw (ap is_eq (cell_turned (key_in table w) (cell_in table x) Equal same)) refl
+  with_same w x rest (Some value) e same above = rw same (sym (put_above (cell_in table) (record { key = w.key; value = value }) rest above))
 
   pub under_hidden : (ws : List Write) (x : Row) (rest : List Row) → IsRising (cell_in table) (x ∷ rest) → begins_with ws x.key ≡ true → rows_under table (x ∷ rest) ws ≡ rows_under table rest ws
   under_hidden [] x rest rising begins = cc
   under_hidden (w ∷ ws) x rest rising begins =
-      let same : cell_cmp (key_in table w) (cell_in table x) ≡ Equal = in_one table w.key x.key ∙ is_eq_equal (key_cmp w.key x.key) begins in
+      let same : cell_cmp (key_in table w) (cell_in table x) ≡ Equal = in_one_table table w.key x.key ∙ is_equal (key_cmp w.key x.key) begins in
       let above : AreAbove (cell_in table) (key_in table w) rest = subst (λ c. AreAbove (cell_in table) c rest) (sym (same_cells (key_in table w) (cell_in table x) same)) rising.0 in
       ap (λ rs. rows_under table rs ws) (with_same w x rest w.put refl same above)
 
   not_before : (w : Write) (x : Row) (o : Ordering) → key_cmp w.key x.key ≡ o → is_eq o ≡ false → o ≢ Less → cell_cmp (cell_in table x) (key_in table w) ≡ Less
   not_before w x Less e other next = absurd (next refl)
   not_before w x Equal e other next = cc
-  not_before w x Greater e other next = flip_greater (key_in table w) (cell_in table x) (in_one table w.key x.key ∙ e)
+  not_before w x Greater e other next = cell_turned (key_in table w) (cell_in table x) Greater (in_one_table table w.key x.key ∙ e)
 
   -- a row that stays
   pub under_kept : (ws : List Write) (x : Row) (rest : List Row) → IsRising (key_in table) ws → begins_with ws x.key ≡ false → IfSome (slice_get ws 0) (λ w. key_cmp w.key x.key ≢ Less)
@@ -167,11 +150,6 @@ module _ (table : ℕ) where
   pub rising_under : (rows : List Row) (ws : List Write) → IsRising (cell_in table) rows → IsRising (cell_in table) (rows_under table rows ws)
   rising_under rows [] rising = rising
   rising_under rows (w ∷ ws) rising = rising_under (rows_with table rows w.key w.put) ws (rising_with rows w.key w.put rising)
-
-pub is_less : (o : Ordering) → is_lt o ≡ true → o ≡ Less
-is_less Less e = refl
-is_less Equal e = cc
-is_less Greater e = cc
 
 drop_none : {A : Type 0} (n : ℕ) (xs : List A) → xs ≡ [] → drop n xs ≡ []
 drop_none zero xs e = e

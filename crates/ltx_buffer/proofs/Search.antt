@@ -14,15 +14,11 @@ use Rattle.ltx_model.specs.Keys.{Cell, cell_cmp, same_cell, put_in_order, AreAbo
 use Rattle.ltx_model.specs.Operations.{cell_of_write}
 use Rattle.ltx_buffer.specs.Own.{write_at}
 use Rattle.ltx_buffer.specs.Places.{IsFoundAt, IsGapAt}
-use Rattle.ltx_lemmas.proofs.Cells.{same_cells, cell_total}
-
--- the order of two keys the other way round
-flipped : (a b : Cell) (o : Ordering) → cell_cmp a b ≡ o → cell_cmp b a ≡ ordering_reverse o
-flipped a b o e = cell_total.antisymm b a ∙ ap ordering_reverse e
+use Rattle.ltx_model.proofs.CellOrder.{same_cells, cell_total, cell_turned}
 
 module _ (cell : Cell) where
   is_here : (write : Write) (o : Ordering) → cell_cmp cell (cell_of_write write) ≡ o → same_cell (cell_of_write write) cell ≡ is_eq (ordering_reverse o)
-  is_here write o e = ap is_eq (flipped cell (cell_of_write write) o e)
+  is_here write o e = ap is_eq (cell_turned cell (cell_of_write write) o e)
 
   found_tail : (x : Write) (xs : List Write) (i : ℕ) → IsFoundAt cell (x ∷ xs) (suc i) → IsFoundAt cell xs i
   found_tail x xs i f = record { within = omega (arith, f.within); below = f.below.1; here = f.here }
@@ -70,7 +66,7 @@ sorted_writes (x ∷ xs) rising = (rising.0, sorted_writes xs rising.1)
 module _ (writes : List Write) (rising : IsRising cell_of_write writes) where
   -- the writes before a place are below its write
   pub later_above : (i j : ℕ) (d : Write) → i < j → j < length writes → cell_cmp (cell_of_write (get_or writes j d)) (cell_of_write (get_or writes i d)) ≡ Greater
-  later_above i j d lt within = flipped (cell_of_write (get_or writes i d)) (cell_of_write (get_or writes j d)) Less (Less-from_sorted by_cell writes i j d (sorted_writes writes rising) lt within)
+  later_above i j d lt within = cell_turned (cell_of_write (get_or writes i d)) (cell_of_write (get_or writes j d)) Less (Less-from_sorted by_cell writes i j d (sorted_writes writes rising) lt within)
 
   never_falls : IsSortedBy (λ a b. is_lt (cell_cmp (cell_of_write a) (cell_of_write b))) writes
   never_falls k d low high = ap is_lt (later_above k (k + 1) d (omega arith) high)
@@ -90,7 +86,7 @@ module _ (writes : List Write) (rising : IsRising cell_of_write writes) where
         found = record {
           within = within;
           below = from_places (λ write. cell_cmp cell (cell_of_write write) ≡ Greater) place (λ j d lt. subst (λ c. cell_cmp c (cell_of_write (get_or writes j d)) ≡ Greater) (here d) (later_above j place d lt within));
-          here = λ d. flipped (cell_of_write (get_or writes place d)) cell Equal (tied d);
+          here = λ d. cell_turned (cell_of_write (get_or writes place d)) cell Equal (tied d);
         };
         absent = tt;
       }
@@ -100,8 +96,8 @@ module _ (writes : List Write) (rising : IsRising cell_of_write writes) where
         found = tt;
         absent = record {
           within = within;
-          below = from_places (λ write. cell_cmp cell (cell_of_write write) ≡ Greater) place (λ j d lt. flipped (cell_of_write (get_or writes j d)) cell Less (parts.0 j d (omega arith) lt));
+          below = from_places (λ write. cell_cmp cell (cell_of_write write) ≡ Greater) place (λ j d lt. cell_turned (cell_of_write (get_or writes j d)) cell Less (parts.0 j d (omega arith) lt));
           above = recursion_from_All _ (drop place writes) (λ j d lt.
-              rw (get_or-drop place writes j d) (flipped (cell_of_write (get_or writes (place + j) d)) cell Greater (parts.1 (place + j) d (omega arith) (omega (arith, length-drop place writes, lt)))));
+              rw (get_or-drop place writes j d) (cell_turned (cell_of_write (get_or writes (place + j) d)) cell Greater (parts.1 (place + j) d (omega arith) (omega (arith, length-drop place writes, lt)))));
         };
       }

@@ -13,18 +13,10 @@ use Rattle.ltx_model.specs.Keys.{Cell, key_cmp, cell_cmp, in_range, AreAbove, Is
 use Rattle.ltx_model.specs.Operations.{cell_of_write}
 use Rattle.ltx_buffer.specs.Own.{is_between}
 use Rattle.ltx_buffer.specs.Places.{IsSplitAt, is_below, end_of, key_in}
-use Rattle.ltx_lemmas.proofs.Cells.{cell_total}
-use Rattle.ltx_lemmas.proofs.Rising.{rising_filter}
-
-is_less : (o : Ordering) → is_lt o ≡ true → o ≡ Less
-is_less Less e = refl
-is_less Equal e = cc
-is_less Greater e = cc
-
-pub is_equal : (o : Ordering) → is_eq o ≡ true → Equal ≡ o
-is_equal Less e = cc
-is_equal Equal e = refl
-is_equal Greater e = cc
+use Rattle.ltx_model.proofs.CellOrder.{cell_total}
+use Rattle.ltx_model.proofs.Rising.{rising_filter}
+use Rattle.ltx_model.proofs.Orderings.{is_less, is_equal, then_not_less, number_below}
+use Rattle.ltx_model.proofs.KeyOrder.{none_below, key_at_most}
 
 -- what stands before a write below the key is below it too
 before_below : (cell : Cell) (x y : Write) → cell_cmp (cell_of_write x) (cell_of_write y) ≡ Less → is_below cell y ≡ true → is_below cell x ≡ true
@@ -72,9 +64,6 @@ filter_twice p q r each (x ∷ xs) = rw (each x) (by_tests (q x) (p x) refl (fil
 nat_same : (a b : ℕ) (o : Ordering) → nat_cmp a b ≡ o → (a == b) ≡ is_eq o
 nat_same a b o e = sym (unsigned_tied a b) ∙ ap is_eq e
 
-nat_less : (a b : ℕ) → a < b → nat_cmp a b ≡ Less
-nat_less a b less = sym (nat_cmp_is a b Less less)
-
 -- a number at the next one or behind it
 behind : (a b : ℕ) → nat_cmp a b ≡ Greater → is_lt (nat_cmp a (b + 1)) ≡ false
 behind a b e = by_cmp (nat_cmp a (b + 1)) refl where
@@ -86,23 +75,6 @@ behind a b e = by_cmp (nat_cmp a (b + 1)) refl where
   by_cmp Equal is = refl
   by_cmp Greater is = refl
 
-nothing_below : (key : List ℕ) → is_lt (key_cmp key []) ≡ false
-nothing_below [] = refl
-nothing_below (x ∷ xs) = refl
-
-then_not_less : (a b : Ordering) → is_lt a ≡ false → is_lt b ≡ false → is_lt (ordering_then a b) ≡ false
-then_not_less Less b e f = cc
-then_not_less Equal b e f = f
-then_not_less Greater b e f = refl
-
-turned : (o : Ordering) → is_le (ordering_reverse o) ≡ not (is_lt o)
-turned Less = refl
-turned Equal = refl
-turned Greater = refl
-
-low_is : (low key : List ℕ) → is_le (key_cmp low key) ≡ not (is_lt (key_cmp key low))
-low_is low key = ap is_le (nat_list_cmp_total.antisymm low key) ∙ turned (key_cmp key low)
-
 -- a range is what is not below its low end, and is below its end
 pub range_is : (table : ℕ) (low high : List ℕ) (w : Write) → is_between table low high w ≡ (not (is_below (record { table = table; key = low }) w) && is_below (end_of table high) w)
 range_is table low high w = by_cmp (nat_cmp w.table table) refl high where
@@ -113,15 +85,15 @@ range_is table low high w = by_cmp (nat_cmp w.table table) refl high where
   by_cmp Less e high = tables Less e high ∙ sym (ap (λ o. not (is_lt (ordering_then o (key_cmp w.key low))) && is_below (end_of table high) w) e)
   by_cmp Equal e [] =
       let same : w.table ≡ table = ranked w.table table Equal (sym e) in
-      let next : nat_cmp w.table (table + 1) ≡ Less = nat_less w.table (table + 1) (omega (arith, same)) in
-      tables Equal e [] ∙ ap (λ b. b && true) (low_is low w.key)
+      let next : nat_cmp w.table (table + 1) ≡ Less = number_below w.table (table + 1) (omega (arith, same)) in
+      tables Equal e [] ∙ ap (λ b. b && true) (key_at_most low w.key)
       ∙ sym (ap (λ o. not (is_lt (key_cmp w.key low)) && is_lt (ordering_then o (key_cmp w.key []))) next)
       ∙ sym (ap (λ o. not (is_lt (ordering_then o (key_cmp w.key low))) && is_lt (ordering_then (nat_cmp w.table (table + 1)) (key_cmp w.key []))) e)
   by_cmp Equal e (h ∷ hs) =
-      tables Equal e (h ∷ hs) ∙ ap (λ b. b && is_lt (key_cmp w.key (h ∷ hs))) (low_is low w.key)
+      tables Equal e (h ∷ hs) ∙ ap (λ b. b && is_lt (key_cmp w.key (h ∷ hs))) (key_at_most low w.key)
       ∙ sym (ap (λ o. not (is_lt (ordering_then o (key_cmp w.key low))) && is_lt (ordering_then o (key_cmp w.key (h ∷ hs)))) e)
   by_cmp Greater e [] =
-      tables Greater e [] ∙ sym (then_not_less (nat_cmp w.table (table + 1)) (key_cmp w.key []) (behind w.table table e) (nothing_below w.key))
+      tables Greater e [] ∙ sym (then_not_less (nat_cmp w.table (table + 1)) (key_cmp w.key []) (behind w.table table e) (none_below w.key))
       ∙ sym (ap (λ o. not (is_lt (ordering_then o (key_cmp w.key low))) && is_lt (ordering_then (nat_cmp w.table (table + 1)) (key_cmp w.key []))) e)
   by_cmp Greater e (h ∷ hs) =
       tables Greater e (h ∷ hs) ∙ sym (ap (λ o. not (is_lt (ordering_then o (key_cmp w.key low))) && is_lt (ordering_then o (key_cmp w.key (h ∷ hs)))) e)
@@ -132,7 +104,7 @@ between_table table low high [] = tt
 between_table table low high (x ∷ xs) = by_test (x.table == table) refl (in_range low high x.key) (between_table table low high xs) where
   by_test : (b : Bool) → (x.table == table) ≡ b → (d : Bool) → AllByRecursion (λ w. w.table ≡ table) (filter (is_between table low high) xs)
       → AllByRecursion (λ w. w.table ≡ table) (cond (b && d) (x ∷ filter (is_between table low high) xs) (filter (is_between table low high) xs))
-  by_test true e true rest = (ranked x.table table Equal (is_equal (nat_cmp x.table table) (unsigned_tied x.table table ∙ e)), rest)
+  by_test true e true rest = (ranked x.table table Equal (sym (is_equal (nat_cmp x.table table) (unsigned_tied x.table table ∙ e))), rest)
   by_test true e false rest = rest
   by_test false e d rest = rest
 

@@ -5,9 +5,10 @@
 //! last version whose mark is at most that. Room is made before a commit, so that the commit
 //! itself takes no memory.
 
-ghost use Rattle.std.specs.Prelude.{◌≡◌, ◌+◌, ◌≤◌, ◌<◌, ℕ, [], ◌∷◌, ◌++◌, length, take, filter, OnOk, OnErr, IfOk, option_copied};
-ghost use Rattle.ltx_chain.specs.Versions.{AreBelow, IsRising, is_at_most, latest, visible, kept_from};
+ghost use Rattle.std.specs.Prelude.{◌≡◌, ◌+◌, ◌≤◌, ◌<◌, ℕ, [], ◌∷◌, ◌++◌, OnOk, OnErr, IfOk, option_copied};
+ghost use Rattle.ltx_chain.specs.Versions.{AreBelow, IsRising, latest, visible, kept_from};
 
+use crate::run::Run;
 use ltx_model::bytes::Value;
 use ltx_model::memory::NoMemory;
 use ltx_model::numbers::Tx;
@@ -22,22 +23,21 @@ pub struct Version {
     pub put: Option<Value>,
 }
 
-/// The versions of a key.
+/// The versions of a key, behind one pointer, so that a key that moves takes them along cheaply.
 #[derive(Debug, Drop)]
 pub struct Chain {
-    versions: Vec<Version>,
+    alloc: Global,
+    run: Option<Box<Run>>,
 }
 
 // Clauses see the versions, and how many more can be installed without taking memory.
 impl Model for Chain {
-    ghost use Rattle.std.specs.Prelude.{vec_capacity, ◌-◌, length};
-    ghost use Rattle.ltx_chain.specs.Versions.{Versions, IsRising};
+    ghost use Rattle.ltx_chain.specs.Versions.{Versions};
+    ghost use Rattle.ltx_chain.specs.Runs.{in_box};
 
     ghost Value = { Versions };
 
-    ghost view = { λ c. record { items = c.versions.items; room = vec_capacity c.versions - length c.versions.items } };
-
-    ghost invariant = { λ c. IsRising c.versions.items };
+    ghost view = { λ c. in_box c.run };
 }
 
 impl Chain {
@@ -46,9 +46,7 @@ impl Chain {
         ensures items { result.items ≡ [] }
         ensures room { result.room ≡ 0 }
     {
-        Chain {
-            versions: Vec::new(alloc),
-        }
+        Chain { alloc, run: None }
     }
 
     /// Makes room for a version. After NoMemory nothing has changed.
@@ -58,13 +56,13 @@ impl Chain {
         ensures kept { self.old.room ≤ self.new.room }
         ensures err { OnErr result (self.new ≡ self.old) }
     {
-        // Most keys keep one version.
-        if self.versions.is_empty() {
-            self.versions.reserve_exact(1)?;
-        } else {
-            self.versions.reserve(1)?;
+        match &mut self.run {
+            Some(run) => run.reserve_one(),
+            None => {
+                self.run = Some(Box::new(self.alloc, Run::new(self.alloc))?);
+                Ok(())
+            }
         }
-        Ok(())
     }
 
     /// Adds a version to those of lower marks, without taking memory.
@@ -74,7 +72,9 @@ impl Chain {
         ensures items { self.new.items ≡ self.old.items ++ version ∷ [] }
         ensures room { self.new.room + 1 ≡ self.old.room }
     {
-        self.versions.push_reserved(version);
+        if let Some(run) = &mut self.run {
+            run.install(version);
+        }
     }
 
     /// The version of the highest mark.
@@ -82,14 +82,20 @@ impl Chain {
         ensures last { option_copied result ≡ latest self.now.items }
         ensures rising { IsRising self.now.items }
     {
-        self.versions.last()
+        match &self.run {
+            Some(run) => run.latest(),
+            None => None,
+        }
     }
 
     /// The version that is seen at a mark.
     pub fn visible(&self, mark: u64) -> Option<&Version>
         ensures { option_copied result ≡ visible mark self.now.items }
     {
-        self.versions[..count_seen(&self.versions, mark)].last()
+        match &self.run {
+            Some(run) => run.visible(mark),
+            None => None,
+        }
     }
 
     /// Drops each version that is seen at no mark from this one on.
@@ -98,18 +104,10 @@ impl Chain {
         ensures seen { (m : ℕ) → mark ≤ m → visible m self.new.items ≡ visible m self.old.items }
         ensures room { self.old.room ≤ self.new.room }
     {
-        let hidden = count_seen(&self.versions, mark).saturating_sub(1);
-        self.versions.drain(..hidden);
+        if let Some(run) = &mut self.run {
+            run.prune(mark);
+        }
     }
-}
-
-// How many versions have at most this mark.
-fn count_seen(versions: &[Version], mark: u64) -> usize
-    requires { IsRising versions.now }
-    ensures count { result ≡ length (filter (is_at_most mark) versions.now) }
-    ensures seen { take result versions.now ≡ filter (is_at_most mark) versions.now }
-{
-    versions.partition_point(|version| version.mark <= mark)
 }
 
 #[cfg(test)]

@@ -15,7 +15,7 @@ use Rattle.ltx_model.specs.Keys.{Cell, IsRising}
 use Rattle.ltx_model.specs.StoredRows.{cell_of}
 use Rattle.ltx_model.specs.Lists.{without_first}
 use Rattle.ltx_model.specs.Operations.{Transaction, operations, writes_of}
-use Rattle.ltx_model.specs.Rows.{rows_after_all, run}
+use Rattle.ltx_model.specs.Rows.{rows_after_all, run, rows_after_writes}
 use Rattle.ltx_model.specs.Agenda.{Committed, CommitShort, Timed, commit_of, commits_of, serial}
 use Rattle.ltx_model.specs.States.{Step, Active, Base, State, transaction_of, answered_of, is_of, active_of, latest}
 use Rattle.ltx_model.specs.Histories.{to_active, closed, moved, committed, commit_move, ended, left, state}
@@ -25,7 +25,6 @@ use Rattle.ltx_model.proofs.OneMore.{run-push}
 use Rattle.ltx_lemmas.proofs.FirstChanges.{first_change_is, first_change_found}
 use Rattle.ltx_lemmas.proofs.Lists.{given_append}
 use Rattle.ltx_lemmas.proofs.Serials.{serial_push}
-use Rattle.ltx_lemmas.specs.Writes.{rows_after_writes}
 use Rattle.ltx_buffer.specs.Own.{write_at}
 use Rattle.ltx_chain.specs.declared.chain.Version.{Version}
 use Rattle.ltx_chain.specs.Versions as versions

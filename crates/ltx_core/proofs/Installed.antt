@@ -9,11 +9,11 @@ use Rattle.ltx_model.specs.declared.writes.Write.{Write}
 use Rattle.ltx_model.specs.Keys.{Cell, same_cell, AreAbove, IsRising}
 use Rattle.ltx_model.specs.StoredRows.{cell_of}
 use Rattle.ltx_model.specs.Operations.{Transaction, operations, cell_of_write, writes_key, writes_of}
-use Rattle.ltx_model.specs.Rows.{rows_after_all}
-use Rattle.ltx_lemmas.specs.Writes.{rows_after_put, rows_after_writes}
+use Rattle.ltx_model.specs.Rows.{rows_after_all, rows_after_put, rows_after_writes}
 use Rattle.ltx_lemmas.proofs.Lists.{all_map, all_push, some_same}
-use Rattle.ltx_lemmas.proofs.Cells.{same_cell_same, item_at-is}
-use Rattle.ltx_lemmas.proofs.Rising.{absent}
+use Rattle.ltx_model.proofs.CellOrder.{same_cell_same}
+use Rattle.ltx_model.proofs.ItemsAt.{item_at-is}
+use Rattle.ltx_model.proofs.Rising.{item_at-above}
 use Rattle.ltx_lemmas.proofs.LastWrites.{last_writes_give}
 use Rattle.ltx_buffer.specs.Own.{write_at}
 use Rattle.ltx_buffer.proofs.Keys.{is_own}
@@ -70,7 +70,7 @@ module _ (writer mark : ℕ) (w : Write) (now new : List Kept) (is : new ≡ wit
   unfolding version
   versions_step rest q above = by_test (same_cell (cell_of_write w) q) refl where
     none : same_cell (cell_of_write w) q ≡ true → write_at rest q ≡ None
-    none same = subst (λ c. write_at rest c ≡ None) (same_cell_same (cell_of_write w) q same) (absent cell_of_write (cell_of_write w) rest above)
+    none same = subst (λ c. write_at rest c ≡ None) (same_cell_same (cell_of_write w) q same) (item_at-above cell_of_write (cell_of_write w) rest above)
 
     by_test : (b : Bool) → same_cell (cell_of_write w) q ≡ b
         → versions_at new q ++ version_by writer mark (write_at rest q) ≡ versions_at now q ++ version_by writer mark (cond b (Some w) (write_at rest q))

@@ -7,7 +7,7 @@ use Rattle.ltx_model.specs.declared.rows.StoredRow.{StoredRow}
 use Rattle.ltx_model.specs.Keys.{Cell, cell_cmp, same_cell, put_in_order, AreAbove, IsRising}
 use Rattle.ltx_model.specs.StoredRows.{cell_of, row_at}
 use Rattle.ltx_lemmas.proofs.Lists.{all_back, some_same, none_some}
-use Rattle.ltx_lemmas.proofs.Cells.{same_cell_refl, same_cell_same, flip_less}
+use Rattle.ltx_model.proofs.CellOrder.{same_cell_refl, same_cell_same, cell_turned}
 use Rattle.ltx_chain.specs.declared.chain.Version.{Version}
 use Rattle.ltx_chain.specs.Versions.{latest}
 use Rattle.ltx_store.specs.Kept.{Kept, items_of, versions_at, latest_rows, AreUpTo, HasLoaded}
@@ -39,7 +39,7 @@ put_last : (front : List StoredRow) (row : StoredRow) (rest : List StoredRow) �
 put_last [] row rest rising = refl
 put_last (y ∷ ys) row rest rising =
     let above : AreAbove cell_of (cell_of y) (row ∷ rest) = all_back (λ x. cell_cmp (cell_of y) (cell_of x) ≡ Less) ys (row ∷ rest) rising.0 in
-    rw (flip_less (cell_of y) (cell_of row) above.0) (ap (λ l. y ∷ l) (put_last ys row rest rising.1))
+    rw (cell_turned (cell_of y) (cell_of row) Less above.0) (ap (λ l. y ∷ l) (put_last ys row rest rising.1))
 
 -- a row of rows in order is found at its key
 found_there : (front : List StoredRow) (row : StoredRow) (rest : List StoredRow) → IsRising cell_of (front ++ row ∷ rest) → row_at (front ++ row ∷ rest) (cell_of row) ≡ Some row

@@ -144,7 +144,7 @@ module _ (old : CoreView) (base : Base) (history : List Entry) (session : ℕ) (
         ∙ (λ i. see (is.number i) (stands.rows i) (sym (ops_answered o.steps) i) op)
 
     abbrev step : Step
-    step = record { op = op; reply = reply; latest = latest s }
+    step = record { op = op; reply = reply; order = serial s.agenda; latest = latest s }
 
     abbrev more : List Entry
     more = record { line = done session op; reply = reply } ∷ []

@@ -11,21 +11,20 @@ use Rattle.ltx_model.specs.declared.replies.Reply.TheVariants.{Rows}
 use Rattle.ltx_model.specs.declared.rows.Row.{Row}
 use Rattle.ltx_model.specs.declared.writes.Look.{Look}
 use Rattle.ltx_model.specs.declared.writes.Write.{Write}
-use Rattle.ltx_model.specs.Keys.{Cell, key_cmp, same_cell, in_range, AreAbove, IsRising}
+use Rattle.ltx_model.specs.Keys.{Cell, key_cmp, same_cell, in_range, AreAbove, IsRising, item_at}
 use Rattle.ltx_model.specs.Operations.{cell_of_write, writes_at, looks_up, writes_of}
 use Rattle.ltx_model.specs.Notes.{IsLook, IsRange, look_of, is_one_of}
 use Rattle.ltx_model.specs.Rows.{rows_between}
 use Rattle.ltx_model.proofs.OneMore.{see-is}
-use Rattle.ltx_lemmas.proofs.Cells.{item_at, same_cell_same, same_cell_refl}
+use Rattle.ltx_model.proofs.CellOrder.{same_cell_same, same_cell_refl, in_one_table}
 use Rattle.ltx_lemmas.proofs.LastWrites.{rising_writes}
 use Rattle.ltx_lemmas.proofs.Lists.{none_some, all_map}
 use Rattle.ltx_lemmas.proofs.Members.{same_number}
-use Rattle.ltx_lemmas.proofs.Rising.{absent}
+use Rattle.ltx_model.proofs.Rising.{item_at-above}
 use Rattle.ltx_lemmas.proofs.Searches.{is_written_of}
 use Rattle.ltx_buffer.specs.Own.{is_between, merged, keys_between, cell_in}
 use Rattle.ltx_buffer.specs.Places.{key_in}
 use Rattle.ltx_buffer.proofs.Merges.{merged_is_seen, rising_seen}
-use Rattle.ltx_buffer.proofs.Rows.{in_one}
 use Rattle.ltx_buffer.proofs.Splits.{rising_between}
 use Rattle.ltx_chain.specs.Versions.{latest, visible}
 use Rattle.ltx_short.specs.Notes.{noted}
@@ -45,11 +44,11 @@ module _ {A : Type 0} (cell : A → Cell) (P : A → Type 0) where
   all_placed (x ∷ xs) rising each = (each x (rw (same_cell_refl (cell x)) refl), all_placed xs rising.1 (λ y at. each y (by_test y at (same_cell (cell x) (cell y)) refl))) where
     by_test : (y : A) → item_at cell xs (cell y) ≡ Some y → (b : Bool) → same_cell (cell x) (cell y) ≡ b → cond b (Some x) (item_at cell xs (cell y)) ≡ Some y
     by_test y at false is = at
-    by_test y at true is = absurd (none_some (sym (absent cell (cell x) xs rising.0) ∙ ap (item_at cell xs) (same_cell_same (cell x) (cell y) is) ∙ at))
+    by_test y at true is = absurd (none_some (sym (item_at-above cell (cell x) xs rising.0) ∙ ap (item_at cell xs) (same_cell_same (cell x) (cell y) is) ∙ at))
 
 -- where keys of one table are one
 one_key : (table : ℕ) (a b : List ℕ) → is_eq (key_cmp a b) ≡ same_cell (record { table = table; key = a }) (record { table = table; key = b })
-one_key table a b = sym (ap is_eq (in_one table a b))
+one_key table a b = sym (ap is_eq (in_one_table table a b))
 
 -- the look of a key, by the place at which it stands
 look_at_place : (table : ℕ) (looks : List Look) (key : List ℕ) → look_of looks key ≡ item_at (cell_of_look table) looks (record { table = table; key = key })

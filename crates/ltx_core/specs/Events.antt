@@ -11,9 +11,8 @@ use Rattle.ltx_model.specs.declared.writes.Write.{Write}
 use Rattle.ltx_model.specs.Lists.{without_first}
 use Rattle.ltx_model.specs.Keys.{Cell}
 use Rattle.ltx_model.specs.Operations.{write_of, put_write, writes_of}
-use Rattle.ltx_model.specs.Rows.{see}
+use Rattle.ltx_model.specs.Rows.{see, rows_after_writes}
 use Rattle.ltx_model.specs.Notes.{IsNote}
-use Rattle.ltx_lemmas.specs.Writes.{rows_after_writes}
 use Rattle.ltx_buffer.specs.Own.{write_at}
 use Rattle.ltx_chain.specs.declared.chain.Version.{Version}
 use Rattle.ltx_chain.specs.Versions.{latest}

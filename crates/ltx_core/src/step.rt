@@ -248,19 +248,19 @@ impl Core {
 
 impl Core {
     /// A core that has answered nothing yet, over these rows, this durable epoch and this last number.
-    /// A base whose numbers are past their bounds is none that a log gives; they are cut to the bounds.
     pub fn new(alloc: Global, base: Recovered) -> Result<Core, NoMemory>
-        ensures stands { IfOk result (λ core. (gate : ℕ) → IsSound (base_of base gate) → StandsFor core (base_of base gate) []) }
+        ensures stands { IfOk result (λ core. (gate : ℕ) → StandsFor core (base_of base gate) []) }
     {
-        let durable = base.epoch.min(LAST_EPOCH - 1);
+        let durable = base.epoch();
+        let last = base.last();
         Ok(Core {
             alloc,
-            store: load(alloc, base.rows)?,
+            store: load(alloc, base.into_rows())?,
             order: Vec::new(alloc),
             active: Vec::new(alloc),
             epoch: durable + 1,
             durable,
-            last: base.last.min(Tx::LAST),
+            last,
         })
     }
 

@@ -10,9 +10,9 @@ use Rattle.std.proofs.lemmas.Bool.{cases_Bool}
 use Rattle.std.proofs.lemmas.Cmp.{nat_list_cmp_total}
 use Rattle.std.proofs.lemmas.Option.{none-some}
 use Rattle.ltx_model.specs.Keys.{key_cmp}
-use Rattle.ltx_index.specs.Pairs.{IsInOrder, value_at, with_pair, with_value, without_key, first_from, reaches}
+use Rattle.ltx_index.specs.Pairs.{IsInOrder, value_at, with_pair, with_value, without_key}
 use Rattle.ltx_index.specs.Places.{AreBelow, AreAbove}
-use Rattle.ltx_index.proofs.Places.{below_from_above}
+use Rattle.ltx_model.proofs.KeyOrder.{key_turned}
 
 -- ---- what holds of all keys
 
@@ -98,25 +98,6 @@ module _ {V : Type 0} (key : List ℕ) (ys : List (List ℕ × V)) (above : AreA
   with_pair-above value [] = with_pair-before key value ys above
   with_pair-above value ((k, x) ∷ xs) = rw (with_pair-above value xs) (put_step value k x xs (with_pair xs key value) (key_cmp key k))
 
--- ---- the first pair from a bound on
-
-module _ {V : Type 0} (from : List ℕ) (strict : Bool) (ys : List (List ℕ × V)) where
-  -- is the second list's where all of the first fall short
-  pub first_from-short : (xs : List (List ℕ × V)) → first_from xs from strict ≡ None → first_from (xs ++ ys) from strict ≡ first_from ys from strict
-  first_from-short [] none = refl
-  first_from-short ((k, x) ∷ xs) none = elim (cases_Bool (reaches from strict k)) [
-    | inl at ↦ absurd (none-some (k, x) (sym (rw at at none)))
-    | inr short ↦ rw short (first_from-short xs (rw short at none))
-  ]
-
-  -- and the first list's where it has one
-  pub first_from-reached : (xs : List (List ℕ × V)) (pair : List ℕ × V) → first_from xs from strict ≡ Some pair → first_from (xs ++ ys) from strict ≡ Some pair
-  first_from-reached [] pair first = absurd (none-some pair first)
-  first_from-reached ((k, x) ∷ xs) pair first = elim (cases_Bool (reaches from strict k)) [
-    | inl at ↦ rw at (rw at at first)
-    | inr short ↦ rw short (first_from-reached xs pair (rw short at first))
-  ]
-
 -- ---- order
 
 -- both lists are in order, and the keys of the first are below those of the second
@@ -151,7 +132,7 @@ module _ {V : Type 0} (key : List ℕ) where
   unfolding IsStrictlySortedBy
   put_in_order value k x rest put sorted put_sorted above Less o = ((o, all_implied (λ y. key_cmp k y ≡ Less) (λ y. key_cmp key y ≡ Less) (λ y later. nat_list_cmp_total.trans key k y o later) (keys_of rest) sorted.0), sorted)
   put_in_order value k x rest put sorted put_sorted above Equal o = sorted
-  put_in_order value k x rest put sorted put_sorted above Greater o = (above (below_from_above key k o), put_sorted)
+  put_in_order value k x rest put sorted put_sorted above Greater o = (above (key_turned key k Greater o), put_sorted)
 
   filled_step : (value : V) (k : List ℕ) (x : V) (rest put : List (List ℕ × V)) (o : Ordering) → 0 < length (match_ordering o ((key, value) ∷ (k, x) ∷ rest) ((k, value) ∷ rest) ((k, x) ∷ put))
   filled_step value k x rest put Less = omega arith

@@ -1,6 +1,7 @@
 -- Pairs in leaves: which leaf a bound's place is in, and what an edit of that leaf makes of all pairs.
-use Rattle.std.proofs.Common.{◌≡◌, ℕ, zero, suc, ◌+◌, ◌-◌, ◌<◌, ◌≤◌, Bool, true, false, [], ◌∷◌, ◌++◌, List, length, take, drop, get_or, Option, Some, None, IsSome, Result, Ok, Err, IfOk, OnErr, IsOk, slice_set, not, refl, sym, ap, ◌∙◌, subst, inl, inr, arith}
+use Rattle.std.proofs.Common.{◌≡◌, ℕ, zero, suc, ◌+◌, ◌-◌, ◌<◌, ◌≤◌, Bool, true, false, [], ◌∷◌, ◌++◌, List, length, take, drop, get_or, Option, Some, None, IsSome, IfSome, IfNone, Result, Ok, Err, IfOk, OnErr, IsOk, slice_set, not, refl, sym, ap, ◌∙◌, subst, inl, inr, arith}
 use Rattle.std.specs.List.{AllByRecursion, insert, remove}
+use Rattle.std.specs.Option.{option_map}
 use Rattle.std.specs.List.Sorted.{IsStrictlySortedBy, IsPartitionedBy, IsPartitionPoint}
 use Rattle.std.specs.declared.cmp.Ordering.{Ordering}
 use Rattle.std.specs.declared.cmp.Ordering.TheVariants.{Less, Equal, Greater}
@@ -9,14 +10,17 @@ use Rattle.std.specs.Ordering.{is_lt, is_le}
 use Rattle.std.proofs.lemmas.Bool.{cases_Bool, cases_eq, cases_lt, both_ways, not-true, not-false, true≢false}
 use Rattle.std.proofs.lemmas.Cmp.{nat_list_cmp_total}
 use Rattle.std.proofs.lemmas.List.{append_assoc, map-append, length-take, length-drop, get_or-take, get_or-drop, get_or_default, get_or_past, set-get_or, set_past, nil_from_length}
-use Rattle.std.proofs.lemmas.List.Elements.{recursion_from_All}
+use Rattle.std.proofs.lemmas.List.Elements.{recursion_from_All, filter-append}
 use Rattle.std.proofs.lemmas.Map.Keys.{sorted_head}
 use Rattle.ltx_model.specs.Keys.{key_cmp}
-use Rattle.ltx_index.specs.Pairs.{IsInOrder, value_at, with_pair, with_value, without_key, first_from, reaches}
+use Rattle.ltx_index.specs.Pairs.{IsInOrder, value_at, with_pair, with_value, without_key, first_from, pairs_from}
+use Rattle.ltx_model.specs.NextKeys.{reaches}
 use Rattle.ltx_index.specs.Places.{AreBelow, AreAbove}
 use Rattle.ltx_index.specs.Leaves.{pairs_of, AreLeaves, first_key, IsHome}
-use Rattle.ltx_index.proofs.Places.{below_from_above, above_from_below, reaches_past, is_less}
-use Rattle.ltx_index.proofs.Joined.{filled-with_pair, all_append, all_right, all_implied, value_at-below, with_pair-below, with_value-below, without_key-below, value_at-above, with_pair-above, with_value-above, without_key-above, first_from-short, first_from-reached, AreParted, parted, in_order-with_pair, in_order-without_key}
+use Rattle.ltx_model.proofs.KeyOrder.{key_turned}
+use Rattle.ltx_model.proofs.KeyOrder.{reaches_past}
+use Rattle.ltx_model.proofs.Orderings.{is_less}
+use Rattle.ltx_index.proofs.Joined.{filled-with_pair, all_append, all_right, all_implied, value_at-below, with_pair-below, with_value-below, without_key-below, value_at-above, with_pair-above, with_value-above, without_key-above, AreParted, parted, in_order-with_pair, in_order-without_key}
 use Rattle.ltx_index.proofs.Lookups.{in_order-with_value, length-with_value}
 
 one_more : (i : ℕ) → suc i ≡ i + 1
@@ -76,8 +80,8 @@ below_short from strict k f below short = by_order (key_cmp from f) refl
         reached : (strict : Bool) → key_cmp from f ≡ Less → reaches from strict f ≡ true
         reached true o = ap is_lt o
         reached false o = ap is_le o
-    by_order Equal o = nat_list_cmp_total.congr from f k o ∙ above_from_below k f below
-    by_order Greater o = above_from_below k from (nat_list_cmp_total.trans k f from below (below_from_above from f o))
+    by_order Equal o = nat_list_cmp_total.congr from f k o ∙ key_turned k f Less below
+    by_order Greater o = key_turned k from Less (nat_list_cmp_total.trans k f from below (key_turned from f Greater o))
 
 module _ {V : Type 0} (from : List ℕ) (strict : Bool) where
   -- a leaf whose first key reaches the bound reaches it as a whole
@@ -130,7 +134,7 @@ module _ {V : Type 0} (from : List ℕ) (strict : Bool) where
   all_leaves P (leaf ∷ rest) all = subst (AllByRecursion P) (sym (map-append (λ pair. pair.0) leaf (pairs_of rest))) (all_append P (keys_of leaf) (keys_of (pairs_of rest)) all.0 (all_leaves P rest all.1))
 
   -- all of a leaf below the bound fall short of it
-  none_from_below : (leaf : List (List ℕ × V)) → AreBelow from (keys_of leaf) → first_from leaf from strict ≡ None
+  none_from_below : (leaf : List (List ℕ × V)) → AreBelow from (keys_of leaf) → pairs_from leaf from strict ≡ []
   none_from_below [] below = refl
   none_from_below ((k, x) ∷ rest) below = rw (short strict) (none_from_below rest below.1)
     where
@@ -138,26 +142,55 @@ module _ {V : Type 0} (from : List ℕ) (strict : Bool) where
       short true = ap is_lt below.0
       short false = ap is_le below.0
 
-  -- leaves that all reach the bound begin with their first pair
-  first_of_reaching : (leaves : List (List (List ℕ × V))) → AllByRecursion (λ leaf. 0 < length leaf) leaves → AllByRecursion (λ leaf. AllByRecursion (λ k. reaches from strict k ≡ true) (keys_of leaf)) leaves → first_from (pairs_of leaves) from strict ≡ first_from (get_or leaves 0 []) from strict
-  first_of_reaching [] filled all = refl
-  first_of_reaching ([] ∷ rest) filled all = absurd (omega (arith, filled.0))
-  first_of_reaching (((k, x) ∷ leaf) ∷ rest) filled all = rw all.0.0 refl
+  -- leaves that all reach the bound are kept
+  all_from_reaching : (pairs : List (List ℕ × V)) → AllByRecursion (λ k. reaches from strict k ≡ true) (keys_of pairs) → pairs_from pairs from strict ≡ pairs
+  all_from_reaching [] all = refl
+  all_from_reaching ((k, x) ∷ rest) all = rw all.0 (ap (λ pairs. (k, x) ∷ pairs) (all_from_reaching rest all.1))
 
-  -- the first pair from the bound on is the leaf's, where it has one
-  pub first_from-home : (leaves : List (List (List ℕ × V))) (i : ℕ) (pair : List ℕ × V) → IsHome leaves from strict i → first_from (get_or leaves i []) from strict ≡ Some pair → first_from (pairs_of leaves) from strict ≡ Some pair
-  first_from-home [] i pair home first = first
-  first_from-home (leaf ∷ rest) zero pair home first = first_from-reached from strict (pairs_of rest) leaf pair first
-  first_from-home (leaf ∷ rest) (suc i) pair home first = first_from-short from strict (pairs_of rest) leaf (none_from_below leaf home.before.0) ∙ first_from-home rest i pair (home_tail leaf rest i home) first
+  pairs_from-append : (xs ys : List (List ℕ × V)) → pairs_from (xs ++ ys) from strict ≡ pairs_from xs from strict ++ pairs_from ys from strict
+  pairs_from-append xs ys = filter-append (λ pair. reaches from strict pair.0) xs ys
 
-  -- and else the next leaf's
-  first_from-later : (leaves : List (List (List ℕ × V))) (i : ℕ) → AllByRecursion (λ leaf. 0 < length leaf) leaves → IsHome leaves from strict i → first_from (get_or leaves i []) from strict ≡ None → first_from (pairs_of leaves) from strict ≡ first_from (get_or leaves (suc i) []) from strict
-  first_from-later [] i filled home none = refl
-  first_from-later (leaf ∷ rest) zero filled home none = first_from-short from strict (pairs_of rest) leaf none ∙ first_of_reaching rest filled.1 home.after
-  first_from-later (leaf ∷ rest) (suc i) filled home none = first_from-short from strict (pairs_of rest) leaf (none_from_below leaf home.before.0) ∙ first_from-later rest i filled.1 (home_tail leaf rest i home) none
+  -- the pairs from the bound on are the leaf's, and all of later leaves
+  pub pairs_from-home : (leaves : List (List (List ℕ × V))) (i : ℕ) (leaf : List (List ℕ × V)) (later : List (List (List ℕ × V))) → IsHome leaves from strict i → drop i leaves ≡ leaf ∷ later → pairs_from (pairs_of leaves) from strict ≡ pairs_from leaf from strict ++ pairs_of later
+  pairs_from-home [] zero leaf later home is = cc
+  pairs_from-home [] (suc i) leaf later home is = cc
+  pairs_from-home (x ∷ rest) zero leaf later home is =
+      let here : x ≡ leaf = cc in
+      let others : rest ≡ later = cc in
+      pairs_from-append x (pairs_of rest)
+      ∙ ap (λ pairs. pairs_from x from strict ++ pairs) (all_from_reaching (pairs_of rest) (all_leaves (λ k. reaches from strict k ≡ true) rest home.after))
+      ∙ ap (λ l. pairs_from l from strict ++ pairs_of rest) here ∙ ap (λ ls. pairs_from leaf from strict ++ pairs_of ls) others
+  pairs_from-home (x ∷ rest) (suc i) leaf later home is =
+      pairs_from-append x (pairs_of rest) ∙ ap (λ pairs. pairs ++ pairs_from (pairs_of rest) from strict) (none_from_below x home.before.0)
+      ∙ pairs_from-home rest i leaf later (home_tail x rest i home) is
 
-  pub first_from-next : (leaves : List (List (List ℕ × V))) (i : ℕ) → AllByRecursion (λ leaf. 0 < length leaf) leaves → IsHome leaves from strict i → first_from (get_or leaves i []) from strict ≡ None → first_from (pairs_of leaves) from strict ≡ first_from (get_or leaves (i + 1) []) from strict
-  first_from-next leaves i filled home none = first_from-later leaves i filled home none ∙ ap (λ n. first_from (get_or leaves n []) from strict) (one_more i)
+  -- past all leaves there are none
+  pub pairs_from-nowhere : (leaves : List (List (List ℕ × V))) (i : ℕ) → IsHome leaves from strict i → drop i leaves ≡ [] → pairs_from (pairs_of leaves) from strict ≡ []
+  pairs_from-nowhere [] i home is = refl
+  pairs_from-nowhere (x ∷ rest) zero home is = cc
+  pairs_from-nowhere (x ∷ rest) (suc i) home is =
+      pairs_from-append x (pairs_of rest) ∙ ap (λ pairs. pairs ++ pairs_from (pairs_of rest) from strict) (none_from_below x home.before.0)
+      ∙ pairs_from-nowhere rest i (home_tail x rest i home) is
+
+-- the first pair from the bound on is the first one of those
+pub first_from-head : {V : Type 0} (from : List ℕ) (strict : Bool) (pairs : List (List ℕ × V)) (pair : List ℕ × V) (rest : List (List ℕ × V)) → pairs_from pairs from strict ≡ pair ∷ rest → first_from pairs from strict ≡ Some pair
+first_from-head from strict [] pair rest is = cc
+first_from-head from strict ((k, x) ∷ pairs) pair rest is = elim (cases_Bool (reaches from strict k)) [
+  | inl at ↦ rw at (let same : (k, x) ∷ pairs_from pairs from strict ≡ pair ∷ rest = rw at at is in cc)
+  | inr short ↦ rw short (first_from-head from strict pairs pair rest (rw short at is))
+]
+
+pub first_from-none : {V : Type 0} (from : List ℕ) (strict : Bool) (pairs : List (List ℕ × V)) → pairs_from pairs from strict ≡ [] → first_from pairs from strict ≡ None
+first_from-none from strict [] is = refl
+first_from-none from strict ((k, x) ∷ pairs) is = elim (cases_Bool (reaches from strict k)) [
+  | inl at ↦ rw at (let same : (k, x) ∷ pairs_from pairs from strict ≡ [] = rw at at is in cc)
+  | inr short ↦ rw short (first_from-none from strict pairs (rw short at is))
+]
+
+-- what a walk gives first
+pub first_from-given : {V R : Type 0} (from : List ℕ) (strict : Bool) (pairs walk : List (List ℕ × V)) (now : R → List ℕ × V) (rest : List (List ℕ × V)) (given : Option R) → walk ≡ pairs_from pairs from strict → IfSome given (λ pair. walk ≡ now pair ∷ rest) → IfNone given (walk ≡ []) → option_map now given ≡ first_from pairs from strict
+first_from-given from strict pairs walk now rest None is some none = sym (first_from-none from strict pairs (sym is ∙ none))
+first_from-given from strict pairs walk now rest (Some pair) is some none = sym (first_from-head from strict pairs (now pair) rest (sym is ∙ some))
 
 module _ {V : Type 0} (key : List ℕ) where
   -- later leaves are above the key
@@ -247,12 +280,6 @@ module _ {V : Type 0} (leaves : List (List (List ℕ × V))) (are : AreLeaves le
     filled = subst (λ n. AllByRecursion (λ leaf. 0 < length leaf) (insert (slice_set leaves i lower) n upper)) (one_more i) (filled-split leaves i lower upper are.filled left right);
     in_order = subst IsInOrder (sym (pairs_split i lower upper within halves)) are.in_order;
   }
-
-  -- past the last leaf nothing is found
-  pub first_from-nowhere : (from : List ℕ) (strict : Bool) (i : ℕ) → length leaves ≤ i → IsHome leaves from strict i → first_from (pairs_of leaves) from strict ≡ None
-  first_from-nowhere from strict i past home =
-      first_from-next from strict leaves i are.filled home (ap (λ leaf. first_from leaf from strict) (get_or_past leaves i [] past))
-      ∙ ap (λ leaf. first_from leaf from strict) (get_or_past leaves (i + 1) [] (omega (arith, past)))
 
   module _ (key : List ℕ) (i : ℕ) (home : IsHome leaves key true i) where
     -- where a value is changed

@@ -15,8 +15,9 @@ use Rattle.std.proofs.lemmas.Map.Lookups.{exact_bytes}
 use Rattle.std.proofs.lemmas.Map.Views.{tells_apart}
 use Rattle.std.proofs.lemmas.Option.{none-some, some_pair_parts}
 use Rattle.ltx_model.specs.Keys.{key_cmp}
-use Rattle.ltx_index.specs.Pairs.{IsInOrder, value_at, with_pair, with_value, without_key, first_from, reaches}
-use Rattle.ltx_index.proofs.Places.{same_key}
+use Rattle.ltx_index.specs.Pairs.{IsInOrder, value_at, with_pair, with_value, without_key, first_from, pairs_from}
+use Rattle.ltx_model.specs.NextKeys.{reaches}
+use Rattle.ltx_model.proofs.KeyOrder.{same_keys}
 
 -- whether two keys are the same
 abbrev pub are_same : List ℕ → List ℕ → Bool
@@ -35,7 +36,7 @@ module _ {V : Type 0} (key : List ℕ) (value : V) (q : List ℕ) where
   -- the first pair's key stands before the new one's place, at it or after it
   put_step : (k : List ℕ) (x : V) (rest put : List (List ℕ × V)) → value_at put q ≡ (if are_same key q then Some value else value_at rest q) → (o : Ordering) → key_cmp key k ≡ o → value_at (match_ordering o ((key, value) ∷ (k, x) ∷ rest) ((k, value) ∷ rest) ((k, x) ∷ put)) q ≡ (if are_same key q then Some value else value_at ((k, x) ∷ rest) q)
   put_step k x rest put in_rest Less o = rw (are_same-flip key q) refl
-  put_step k x rest put in_rest Equal o = rw (same_key key k o, are_same-flip k q) (elim (cases_Bool (are_same q k)) [
+  put_step k x rest put in_rest Equal o = rw (same_keys key k o, are_same-flip k q) (elim (cases_Bool (are_same q k)) [
     | inl same ↦ rw same refl
     | inr differ ↦ rw differ refl
   ])
@@ -125,3 +126,43 @@ module _ {V : Type 0} (from : List ℕ) (strict : Bool) where
       ]
       | inr short ↦ first_is_least rest (sorted_tail key_cmp k (keys_of rest) in_order) (rw short at first) q reached (rw (differ_by_reach from strict q k reached short) at stands)
     ]
+
+-- ---- the pairs from a bound on
+
+module _ {V : Type 0} (from : List ℕ) (strict : Bool) where
+  -- hold what stands at a key that reaches it
+  pub value_at-pairs_from : (pairs : List (List ℕ × V)) (key : List ℕ) → reaches from strict key ≡ true → value_at pairs key ≡ value_at (pairs_from pairs from strict) key
+  value_at-pairs_from [] key at = refl
+  value_at-pairs_from ((k, x) ∷ rest) key at = elim (cases_Bool (reaches from strict k)) [
+    | inl too ↦ rw too (ap (λ o. if are_same key k then Some x else o) (value_at-pairs_from rest key at))
+    | inr short ↦ rw (short, differ_by_reach from strict key k at short) (value_at-pairs_from rest key at)
+  ]
+
+  -- all reach it
+  pub all_reach : (pairs : List (List ℕ × V)) → AllByRecursion (λ k. reaches from strict k ≡ true) (keys_of (pairs_from pairs from strict))
+  all_reach [] = tt
+  all_reach ((k, x) ∷ rest) = elim (cases_Bool (reaches from strict k)) [
+    | inl at ↦ rw at (at, all_reach rest)
+    | inr short ↦ rw short (all_reach rest)
+  ]
+
+  all-pairs_from : (P : List ℕ → Type 0) (pairs : List (List ℕ × V)) → AllByRecursion P (keys_of pairs) → AllByRecursion P (keys_of (pairs_from pairs from strict))
+  all-pairs_from P [] all = tt
+  all-pairs_from P ((k, x) ∷ rest) all = elim (cases_Bool (reaches from strict k)) [
+    | inl at ↦ rw at (all.0, all-pairs_from P rest all.1)
+    | inr short ↦ rw short (all-pairs_from P rest all.1)
+  ]
+
+  -- and stand in order
+  pub in_order-pairs_from : (pairs : List (List ℕ × V)) → IsInOrder pairs → IsInOrder (pairs_from pairs from strict)
+  unfolding IsStrictlySortedBy
+  in_order-pairs_from [] sorted = tt
+  in_order-pairs_from ((k, x) ∷ rest) sorted = elim (cases_Bool (reaches from strict k)) [
+    | inl at ↦ rw at (all-pairs_from (λ y. key_cmp k y ≡ Less) rest sorted.0, in_order-pairs_from rest sorted.1)
+    | inr short ↦ rw short (in_order-pairs_from rest sorted.1)
+  ]
+
+-- nothing stands at a key that all keys are above
+pub value_at-lesser : {V : Type 0} (key : List ℕ) (pairs : List (List ℕ × V)) → AllByRecursion (λ k. key_cmp key k ≡ Less) (keys_of pairs) → value_at pairs key ≡ None
+value_at-lesser key [] above = refl
+value_at-lesser key ((k, x) ∷ rest) above = rw above.0 (value_at-lesser key rest above.1)

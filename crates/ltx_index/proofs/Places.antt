@@ -6,7 +6,7 @@ use Rattle.std.specs.List.Sorted.{IsStrictlySortedBy, IsSortedBy, IsSearchInRang
 use Rattle.std.specs.Ordering.{ordering_reverse, is_lt, is_le}
 use Rattle.std.specs.declared.cmp.Ordering.{Ordering}
 use Rattle.std.specs.declared.cmp.Ordering.TheVariants.{Less, Equal, Greater}
-use Rattle.std.proofs.lemmas.Cmp.{nat_list_cmp_total, tied_itself}
+use Rattle.std.proofs.lemmas.Cmp.{nat_list_cmp_total}
 use Rattle.std.proofs.lemmas.Option.{none-some, same_Some, slice_get-get_or, slice_get_cases, slice_get_past}
 use Rattle.std.proofs.lemmas.Map.Made.{keys_of-zip}
 use Rattle.std.proofs.lemmas.Slice.Zip.{length-zip}
@@ -16,27 +16,13 @@ use Rattle.std.proofs.lemmas.List.Edits.{length-insert, length-remove}
 use Rattle.std.proofs.lemmas.List.Elements.{recursion_from_All}
 use Rattle.std.proofs.lemmas.List.Sorted.{searchable_from_sorted}
 use Rattle.std.proofs.lemmas.Map.Keys.{Less-from_sorted}
-use Rattle.std.proofs.lemmas.Map.Lookups.{exact_bytes}
 use Rattle.ltx_model.specs.Keys.{key_cmp}
-use Rattle.ltx_index.specs.Pairs.{IsInOrder, value_at, with_pair, with_value, without_key, first_from, reaches}
+use Rattle.ltx_model.proofs.KeyOrder.{key_turned, key_itself, same_keys, reaches_past}
+use Rattle.ltx_index.specs.Pairs.{IsInOrder, value_at, with_pair, with_value, without_key, pairs_from}
+use Rattle.ltx_model.specs.NextKeys.{reaches}
 use Rattle.ltx_index.specs.Places.{IsRun, AreAbove, IsFoundAt, IsGapAt, IsStartAt}
 
--- keys are tied where they are the same
-pub same_key : (a b : List ℕ) → key_cmp a b ≡ Equal → a ≡ b
-same_key a b tied = exact_bytes a b tied
-
--- the order the other way round
-pub below_from_above : (a b : List ℕ) → key_cmp a b ≡ Greater → key_cmp b a ≡ Less
-below_from_above a b above = nat_list_cmp_total.antisymm b a ∙ ap ordering_reverse above
-
-pub above_from_below : (a b : List ℕ) → key_cmp a b ≡ Less → key_cmp b a ≡ Greater
-above_from_below a b below = nat_list_cmp_total.antisymm b a ∙ ap ordering_reverse below
-
 module _ (key : List ℕ) where
-  -- a key is at itself
-  itself : key_cmp key key ≡ Equal
-  itself = tied_itself nat_list_cmp_total key
-
   found_tail : (k : List ℕ) (ks : List (List ℕ)) (i : ℕ) → IsFoundAt (k ∷ ks) key (suc i) → IsFoundAt ks key i
   found_tail k ks i f = record { in_range = omega (arith, f.in_range); below = f.below.1; here = f.here }
 
@@ -49,25 +35,25 @@ module _ {V : Type 0} (key : List ℕ) where
   pub value_at-found : (ks : List (List ℕ)) (vs : List V) (i : ℕ) (v : V) → IsFoundAt ks key i → slice_get vs i ≡ Some v → value_at (zip ks vs) key ≡ Some v
   value_at-found [] vs i v f at = absurd (omega (arith, f.in_range))
   value_at-found (k ∷ ks) [] i v f at = absurd (none-some v at)
-  value_at-found (k ∷ ks) (x ∷ xs) zero v f at = rw (same_Some _ _ f.here, itself key) at
+  value_at-found (k ∷ ks) (x ∷ xs) zero v f at = rw (same_Some _ _ f.here, key_itself key) at
   value_at-found (k ∷ ks) (x ∷ xs) (suc i) v f at = rw f.below.0 (value_at-found ks xs i v (found_tail key k ks i f) at)
 
   pub with_value-found : (ks : List (List ℕ)) (vs : List V) (i : ℕ) (w : V) → IsFoundAt ks key i → with_value (zip ks vs) key w ≡ zip ks (slice_set vs i w)
   with_value-found [] vs i w f = refl
   with_value-found (k ∷ ks) [] i w f = refl
-  with_value-found (k ∷ ks) (x ∷ xs) zero w f = rw (same_Some _ _ f.here, itself key) refl
+  with_value-found (k ∷ ks) (x ∷ xs) zero w f = rw (same_Some _ _ f.here, key_itself key) refl
   with_value-found (k ∷ ks) (x ∷ xs) (suc i) w f = rw (f.below.0, with_value-found ks xs i w (found_tail key k ks i f)) refl
 
   pub with_pair-found : (ks : List (List ℕ)) (vs : List V) (i : ℕ) (w : V) → length ks ≡ length vs → IsFoundAt ks key i → with_pair (zip ks vs) key w ≡ zip ks (slice_set vs i w)
   with_pair-found [] vs i w same f = absurd (omega (arith, f.in_range))
   with_pair-found (k ∷ ks) [] i w same f = absurd (omega (arith, same))
-  with_pair-found (k ∷ ks) (x ∷ xs) zero w same f = rw (same_Some _ _ f.here, itself key) refl
+  with_pair-found (k ∷ ks) (x ∷ xs) zero w same f = rw (same_Some _ _ f.here, key_itself key) refl
   with_pair-found (k ∷ ks) (x ∷ xs) (suc i) w same f = rw (f.below.0, with_pair-found ks xs i w (omega (arith, same)) (found_tail key k ks i f)) refl
 
   pub without_key-found : (ks : List (List ℕ)) (vs : List V) (i : ℕ) → length ks ≡ length vs → IsFoundAt ks key i → without_key (zip ks vs) key ≡ zip (remove ks i) (remove vs i)
   without_key-found [] vs i same f = absurd (omega (arith, f.in_range))
   without_key-found (k ∷ ks) [] i same f = absurd (omega (arith, same))
-  without_key-found (k ∷ ks) (x ∷ xs) zero same f = rw (same_Some _ _ f.here, itself key) refl
+  without_key-found (k ∷ ks) (x ∷ xs) zero same f = rw (same_Some _ _ f.here, key_itself key) refl
   without_key-found (k ∷ ks) (x ∷ xs) (suc i) same f = rw (f.below.0, without_key-found ks xs i (omega (arith, same)) (found_tail key k ks i f)) refl
 
   -- ---- where it does not stand
@@ -122,7 +108,7 @@ pub in_order-insert : (ks : List (List ℕ)) (i : ℕ) (key : List ℕ) → IsSt
 unfolding IsStrictlySortedBy
 in_order-insert ks zero key s gap = (gap.above, s)
 in_order-insert [] (suc i) key s gap = (tt, tt)
-in_order-insert (k ∷ ks) (suc i) key s gap = (all_insert _ ks i key s.0 (below_from_above key k gap.below.0), in_order-insert ks i key s.1 (gap_tail key k ks i gap))
+in_order-insert (k ∷ ks) (suc i) key s gap = (all_insert _ ks i key s.0 (key_turned key k Greater gap.below.0), in_order-insert ks i key s.1 (gap_tail key k ks i gap))
 
 -- one pair alone is a run
 pub pair_run : {V : Type 0} (key : List ℕ) (value : V) → IsRun (key ∷ []) (value ∷ [])
@@ -153,36 +139,12 @@ in_order-drop zero ks s = s
 in_order-drop (suc n) [] s = tt
 in_order-drop (suc n) (k ∷ ks) s = in_order-drop n ks s.1
 
--- ---- what reaches a bound
-
-pub is_less : (o : Ordering) → is_lt o ≡ true → o ≡ Less
-is_less Less at = refl
-is_less Equal at = absurd (false≢true at)
-is_less Greater at = absurd (false≢true at)
-
-is_less_or_equal : (o : Ordering) → is_le o ≡ true → (o ≡ Less) ⊎ (o ≡ Equal)
-is_less_or_equal Less at = inl refl
-is_less_or_equal Equal at = inr refl
-is_less_or_equal Greater at = absurd (false≢true at)
-
--- what stands above a key that reaches the bound is above the bound
-pub above_past : (from k l : List ℕ) → key_cmp k l ≡ Less → is_le (key_cmp from k) ≡ true → key_cmp from l ≡ Less
-above_past from k l past at = elim (is_less_or_equal (key_cmp from k) at) [
-  | inl below ↦ nat_list_cmp_total.trans from k l below past
-  | inr tied ↦ nat_list_cmp_total.congr from k l tied ∙ past
-]
-
--- what stands above a key that reaches the bound reaches it too
-pub reaches_past : (from : List ℕ) (strict : Bool) (k l : List ℕ) → key_cmp k l ≡ Less → reaches from strict k ≡ true → reaches from strict l ≡ true
-reaches_past from true k l past at = ap is_lt (nat_list_cmp_total.trans from k l (is_less (key_cmp from k) at) past)
-reaches_past from false k l past at = ap is_le (above_past from k l past at)
-
 -- ---- what a binary search ends at
 
 module _ (ks : List (List ℕ)) (sorted : IsStrictlySortedBy key_cmp ks) where
   -- the keys before a place are below its key
   later_above : (i j : ℕ) (d : List ℕ) → i < j → j < length ks → key_cmp (get_or ks j d) (get_or ks i d) ≡ Greater
-  later_above i j d lt within = above_from_below (get_or ks i d) (get_or ks j d) (Less-from_sorted key_cmp ks i j d sorted lt within)
+  later_above i j d lt within = key_turned (get_or ks i d) (get_or ks j d) Less (Less-from_sorted key_cmp ks i j d sorted lt within)
 
   -- no key is below an earlier one
   never_falls : IsSortedBy (λ a b. is_lt (key_cmp a b)) ks
@@ -197,7 +159,7 @@ module _ (ks : List (List ℕ)) (sorted : IsStrictlySortedBy key_cmp ks) where
   -- a search by key ends at the key, or at its gap
   pub searched : (key : List ℕ) (r : Result ℕ ℕ) → IsSearchInRange r (length ks) → IsBinarySearchResult (λ k. key_cmp k key) ks r → record { found : IfOk r (IsFoundAt ks key); absent : IfErr r (IsGapAt ks key) }
   searched key (Ok at) within tied =
-      let here : (d : List ℕ) → get_or ks at d ≡ key = λ d. same_key (get_or ks at d) key (tied d) in
+      let here : (d : List ℕ) → get_or ks at d ≡ key = λ d. same_keys (get_or ks at d) key (tied d) in
       record {
         found = record {
           in_range = within;
@@ -212,9 +174,9 @@ module _ (ks : List (List ℕ)) (sorted : IsStrictlySortedBy key_cmp ks) where
         found = tt;
         absent = record {
           in_range = within;
-          below = from_places (λ k. key_cmp key k ≡ Greater) at (λ j d lt. above_from_below (get_or ks j d) key (parts.0 j d (omega arith) lt));
+          below = from_places (λ k. key_cmp key k ≡ Greater) at (λ j d lt. key_turned (get_or ks j d) key Less (parts.0 j d (omega arith) lt));
           above = recursion_from_All _ (drop at ks) (λ j d lt.
-              rw (get_or-drop at ks j d) (below_from_above (get_or ks (at + j) d) key (parts.1 (at + j) d (omega arith) (omega (arith, length-drop at ks, lt)))));
+              rw (get_or-drop at ks j d) (key_turned (get_or ks (at + j) d) key Greater (parts.1 (at + j) d (omega arith) (omega (arith, length-drop at ks, lt)))));
         };
       }
 
@@ -239,16 +201,8 @@ module _ (ks : List (List ℕ)) (sorted : IsStrictlySortedBy key_cmp ks) where
     ];
   }
 
--- ---- the first pair from a bound on
-
 start_tail : (from : List ℕ) (strict : Bool) (k : List ℕ) (ks : List (List ℕ)) (i : ℕ) → IsStartAt (k ∷ ks) from strict (suc i) → IsStartAt ks from strict i
 start_tail from strict k ks i s = record { in_range = omega (arith, s.in_range); short = s.short.1; first = s.first }
-
-pub first_from-start : {V : Type 0} (ks : List (List ℕ)) (vs : List V) (from : List ℕ) (strict : Bool) (i : ℕ) → length ks ≡ length vs → IsStartAt ks from strict i → first_from (zip ks vs) from strict ≡ slice_get (zip ks vs) i
-first_from-start [] vs from strict i same s = refl
-first_from-start (k ∷ ks) [] from strict i same s = refl
-first_from-start (k ∷ ks) (v ∷ vs) from strict zero same s = rw s.first refl
-first_from-start (k ∷ ks) (v ∷ vs) from strict (suc i) same s = rw s.short.0 (first_from-start ks vs from strict i (omega (arith, same)) (start_tail from strict k ks i s))
 
 -- ---- what a read lends
 
@@ -256,19 +210,6 @@ first_from-start (k ∷ ks) (v ∷ vs) from strict (suc i) same s = rw s.short.0
 pub lent_item : {R X : Type 0} (now : R → X) (xs : List X) (i : ℕ) (r : Option R) → ItemBy now xs i i r → option_map now r ≡ slice_get xs i
 lent_item now xs i None item = sym (slice_get_past xs i item.3)
 lent_item now xs i (Some x) item = ap Some (item.3.1 (now x)) ∙ sym (slice_get-get_or xs i (now x) item.3.0)
-
--- the pair at a place of a run
-pub slice_get_pair : {V : Type 0} (ks : List (List ℕ)) (vs : List V) (i : ℕ) (k : List ℕ) (v : V) → slice_get ks i ≡ Some k → slice_get vs i ≡ Some v → slice_get (zip ks vs) i ≡ Some (k, v)
-slice_get_pair [] vs i k v key value = absurd (none-some k key)
-slice_get_pair (a ∷ ks) [] i k v key value = absurd (none-some v value)
-slice_get_pair (a ∷ ks) (b ∷ vs) zero k v key value = rw (same_Some _ _ key, same_Some _ _ value) refl
-slice_get_pair (a ∷ ks) (b ∷ vs) (suc i) k v key value = slice_get_pair ks vs i k v key value
-
-pub no_pair : {V : Type 0} (ks : List (List ℕ)) (vs : List V) (i : ℕ) → slice_get ks i ≡ None → slice_get (zip ks vs) i ≡ None
-no_pair [] vs i past = refl
-no_pair (a ∷ ks) [] i past = refl
-no_pair (a ∷ ks) (b ∷ vs) zero past = absurd (none-some a (sym past))
-no_pair (a ∷ ks) (b ∷ vs) (suc i) past = no_pair ks vs i past
 
 -- the same with a default
 pub read_some : {R X : Type 0} (now : R → X) (xs : List X) (i : ℕ) (d : X) (r : Option R) (x : R) → ItemBy now xs i i r → r ≡ Some x → get_or xs i d ≡ now x
@@ -331,18 +272,6 @@ module _ {V : Type 0} (ks : List (List ℕ)) (vs : List V) (run : IsRun ks vs) w
   pub length_run : length (zip ks vs) ≡ length ks
   length_run = omega (arith, length-zip ks vs, run.as_many)
 
-  module _ (from : List ℕ) (strict : Bool) where
-    -- reads of both vectors at the place where the keys begin that reach the bound give the first pair
-    pub first_from-lent : {R S : Type 0} (key : R → List ℕ) (value : S → V) (i : ℕ) → IsStartAt ks from strict i → (r : Option R) → ItemBy key ks i i r → (s : Option S) → ItemBy value vs i i s → (x : R) (y : S) → r ≡ Some x → s ≡ Some y → first_from (zip ks vs) from strict ≡ Some (key x, value y)
-    first_from-lent key value i start r at_key s at_value x y is_key is_value =
-        first_from-start ks vs from strict i run.as_many start
-        ∙ slice_get_pair ks vs i (key x) (value y) (sym (lent_item key ks i r at_key) ∙ ap (option_map key) is_key) (sym (lent_item value vs i s at_value) ∙ ap (option_map value) is_value)
-
-    pub none_from-lent : {R : Type 0} (key : R → List ℕ) (i : ℕ) → IsStartAt ks from strict i → (r : Option R) → ItemBy key ks i i r → r ≡ None → first_from (zip ks vs) from strict ≡ None
-    none_from-lent key i start r at_key none =
-        first_from-start ks vs from strict i run.as_many start
-        ∙ no_pair ks vs i (sym (lent_item key ks i r at_key) ∙ ap (option_map key) none)
-
 zip-nothing : {V : Type 0} (ks : List (List ℕ)) → zip {X = V} ks [] ≡ []
 zip-nothing [] = refl
 zip-nothing (k ∷ ks) = refl
@@ -353,3 +282,25 @@ zip-halves zero ks vs = refl
 zip-halves (suc n) [] vs = refl
 zip-halves (suc n) (k ∷ ks) [] = sym (zip-nothing (drop n ks))
 zip-halves (suc n) (k ∷ ks) (v ∷ vs) = ap (λ pairs. (k, v) ∷ pairs) (zip-halves n ks vs)
+
+-- ---- the pairs from a bound on
+
+reach_past : (from : List ℕ) (strict : Bool) (k : List ℕ) (ks : List (List ℕ)) → reaches from strict k ≡ true → AllByRecursion (λ l. key_cmp k l ≡ Less) ks → AllByRecursion (λ l. reaches from strict l ≡ true) ks
+reach_past from strict k [] at above = tt
+reach_past from strict k (l ∷ ks) at above = (reaches_past from strict k l above.0 at, reach_past from strict k ks at above.1)
+
+module _ {V : Type 0} (from : List ℕ) (strict : Bool) where
+  -- keys that all reach the bound keep their pairs
+  pub all_from : (ks : List (List ℕ)) (vs : List V) → AllByRecursion (λ k. reaches from strict k ≡ true) ks → pairs_from (zip ks vs) from strict ≡ zip ks vs
+  all_from [] vs all = refl
+  all_from (k ∷ ks) [] all = refl
+  all_from (k ∷ ks) (v ∷ vs) all = rw all.0 (ap (λ pairs. (k, v) ∷ pairs) (all_from ks vs all.1))
+
+  -- from the place on where the keys begin that reach the bound
+  pub pairs_from-start : (ks : List (List ℕ)) (vs : List V) (i : ℕ) → length ks ≡ length vs → IsStrictlySortedBy key_cmp ks → IsStartAt ks from strict i → zip (drop i ks) (drop i vs) ≡ pairs_from (zip ks vs) from strict
+  unfolding IsStrictlySortedBy
+  pairs_from-start [] vs zero same sorted s = refl
+  pairs_from-start [] vs (suc i) same sorted s = refl
+  pairs_from-start (k ∷ ks) [] i same sorted s = absurd (omega (arith, same))
+  pairs_from-start (k ∷ ks) (v ∷ vs) zero same sorted s = rw s.first (ap (λ pairs. (k, v) ∷ pairs) (sym (all_from ks vs (reach_past from strict k ks s.first sorted.0))))
+  pairs_from-start (k ∷ ks) (v ∷ vs) (suc i) same sorted s = rw s.short.0 (pairs_from-start ks vs i (omega (arith, same)) sorted.1 (start_tail from strict k ks i s))

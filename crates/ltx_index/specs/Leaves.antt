@@ -2,7 +2,8 @@
 use Rattle.std.specs.Prelude.{◌≡◌, ℕ, suc, ◌<◌, Bool, true, List, [], ◌∷◌, length, take, drop}
 use Rattle.std.specs.List.{flat_map, AllByRecursion}
 use Rattle.std.specs.Map.{keys_of}
-use Rattle.ltx_index.specs.Pairs.{IsInOrder, reaches}
+use Rattle.ltx_index.specs.Pairs.{IsInOrder}
+use Rattle.ltx_model.specs.NextKeys.{reaches}
 use Rattle.ltx_index.specs.Places.{AreBelow}
 
 -- the pairs of all leaves, one leaf after the other

@@ -1,11 +1,11 @@
 -- An ordered map as its list of pairs of a key and a value, in rising order of the keys.
-use Rattle.std.specs.Prelude.{ℕ, Bool, Option, List, if◌then◌else◌}
+use Rattle.std.specs.Prelude.{ℕ, Bool, Option, List, filter}
 use Rattle.std.specs.List.{find}
 use Rattle.std.specs.List.Sorted.{IsStrictlySortedBy}
 use Rattle.std.specs.Map.{keys_of, lookup, remove_entry, set_value}
 use Rattle.std.specs.BTreeMap.{insert_entry, is_at}
-use Rattle.std.specs.Ordering.{is_lt, is_le}
 use Rattle.ltx_model.specs.Keys.{key_cmp}
+use Rattle.ltx_model.specs.NextKeys.{reaches}
 
 -- the pairs stand in strictly rising order of their keys
 abbrev pub IsInOrder : {V : Type 0} → List (List ℕ × V) → Type 0
@@ -27,10 +27,10 @@ with_value pairs key value = set_value (is_at (key_cmp key)) pairs value
 abbrev pub without_key : {V : Type 0} → List (List ℕ × V) → List ℕ → List (List ℕ × V)
 without_key pairs key = remove_entry (is_at (key_cmp key)) pairs
 
--- the key is at least this bound, or above it where strict
-abbrev pub reaches : List ℕ → Bool → List ℕ → Bool
-reaches from strict key = if strict then is_lt (key_cmp from key) else is_le (key_cmp from key)
-
 -- the pair with the least key that reaches the bound: the keys rise, so it is the first one
 abbrev pub first_from : {V : Type 0} → List (List ℕ × V) → List ℕ → Bool → Option (List ℕ × V)
 first_from pairs from strict = find (λ pair. reaches from strict pair.0) pairs
+
+-- the pairs whose keys reach the bound: the last ones, since the keys rise
+abbrev pub pairs_from : {V : Type 0} → List (List ℕ × V) → List ℕ → Bool → List (List ℕ × V)
+pairs_from pairs from strict = filter (λ pair. reaches from strict pair.0) pairs

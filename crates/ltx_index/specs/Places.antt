@@ -4,7 +4,7 @@ use Rattle.std.specs.List.{AllByRecursion}
 use Rattle.std.specs.List.Sorted.{IsStrictlySortedBy}
 use Rattle.std.specs.declared.cmp.Ordering.TheVariants.{Less, Greater}
 use Rattle.ltx_model.specs.Keys.{key_cmp}
-use Rattle.ltx_index.specs.Pairs.{reaches}
+use Rattle.ltx_model.specs.NextKeys.{reaches}
 
 -- at most 128 keys in rising order, with as many values
 pub record IsRun {V : Type 0} (keys : List (List ℕ)) (values : List V) : Type 0 where

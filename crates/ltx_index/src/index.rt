@@ -2,16 +2,17 @@
 //! runs of at most 128 pairs, none of them empty. So an insert moves pairs of one leaf alone, and
 //! once in some 64 inserts the heads of the later leaves.
 
-ghost use Rattle.std.specs.Prelude.{◌≡◌, ◌<◌, ◌≤◌, [], ◌∷◌, ◌++◌, None, insert, vec_len, IsSome, IsOk, IfOk, IfErr, OnErr};
+ghost use Rattle.std.specs.Prelude.{◌≡◌, ◌<◌, ◌≤◌, [], ◌∷◌, ◌++◌, None, insert, vec_len, IsSome, IsOk, IfOk, IfErr, OnErr, drop};
 ghost use Rattle.std.specs.Borrow.{LendsIf, sem};
 ghost use Rattle.std.specs.Map.Iter.{deref_pair};
 ghost use Rattle.std.specs.Vec.{vec_capacity};
 ghost use Rattle.std.specs.Option.{option_copied, option_copied_mut, option_map};
-ghost use Rattle.ltx_index.specs.Pairs.{IsInOrder, value_at, with_value, with_pair, without_key, first_from};
+ghost use Rattle.ltx_index.specs.Pairs.{IsInOrder, value_at, with_value, with_pair, without_key, first_from, pairs_from};
 ghost use Rattle.ltx_index.specs.Leaves.{AreLeaves, IsHome};
 ghost use Rattle.ltx_index.specs.contracts.index.Index.{the_row};
 
 use crate::leaf::{Leaf, falls_short};
+use crate::walk::Walk;
 use ltx_model::bytes::Key;
 use std::alloc::Global;
 use std::marker::Model;
@@ -73,10 +74,21 @@ impl<V: Drop> Index<V> {
         ensures pair { option_map deref_pair result ≡ first_from self.now from.now strict }
         ensures in_order { IsInOrder self.now }
     {
+        self.walk(from, strict).next()
+    }
+
+    /// A walk along the pairs whose keys are at least `from`, or above it where `strict`.
+    pub fn walk<'a>(&'a self, from: &[u8], strict: bool) -> Walk<'a, V>
+        ensures pairs { result ≡ pairs_from self.now from.now strict }
+        ensures in_order { IsInOrder self.now }
+    {
         let at = home(&self.leaves, from, strict);
-        match self.leaves.get(at)?.after(from, strict) {
-            Some(pair) => Some(pair),
-            None => self.leaves.get(at + 1)?.after(from, strict),
+        match behind(&self.leaves, at).split_first() {
+            Some((leaf, later)) => {
+                let (keys, values) = leaf.parts_from(from, strict);
+                Walk::along(keys, values, later)
+            }
+            None => Walk::along(&[], &[], &[]),
         }
     }
 
@@ -157,6 +169,17 @@ fn home<V>(leaves: &[Leaf<V>], from: &[u8], strict: bool) -> usize
     leaves
         .partition_point(|leaf| falls_short(leaf.first(), from, strict))
         .saturating_sub(1)
+}
+
+// The leaves from a place on.
+fn behind<V>(leaves: &[Leaf<V>], at: usize) -> &[Leaf<V>]
+    ensures { result.now ≡ drop at leaves.now }
+{
+    if at > leaves.len() {
+        return &[];
+    }
+    let (_, later) = leaves.split_at(at);
+    later
 }
 
 // Puts the leaf into its place, where there is room for it.

@@ -3,11 +3,12 @@
 
 ghost use Rattle.std.specs.Prelude.{◌≡◌, ◌≤◌, [], IsSome, IsOk, IfOk, IfErr, IfSome, IfNone, OnOk, OnErr, IsTrue, not, vec_len, insert, ◌<◌, ◌++◌, ◌∷◌, ◌↔◌, length, take, drop};
 ghost use Rattle.std.specs.Borrow.{LendsIf, sem};
+ghost use Rattle.std.specs.List.{zip};
 ghost use Rattle.std.specs.List.Sorted.{IsStrictlySortedBy};
-ghost use Rattle.std.specs.Map.Iter.{deref_pair};
-ghost use Rattle.std.specs.Option.{option_copied, option_copied_mut, option_map};
+ghost use Rattle.std.specs.Option.{option_copied, option_copied_mut};
 ghost use Rattle.ltx_model.specs.Keys.{key_cmp};
-ghost use Rattle.ltx_index.specs.Pairs.{IsInOrder, value_at, with_value, with_pair, without_key, first_from, reaches};
+ghost use Rattle.ltx_index.specs.Pairs.{IsInOrder, value_at, with_value, with_pair, without_key, pairs_from};
+ghost use Rattle.ltx_model.specs.NextKeys.{reaches};
 ghost use Rattle.ltx_index.specs.Places.{IsFoundAt, IsGapAt, IsStartAt};
 ghost use Rattle.ltx_index.specs.Leaves.{first_key};
 ghost use Rattle.ltx_index.specs.contracts.leaf.Leaf.{the_row};
@@ -94,13 +95,22 @@ impl<V> Leaf<V> {
         }
     }
 
-    /// The pair with the least key that is at least `from`, or above it where `strict`.
-    pub fn after(&self, from: &[u8], strict: bool) -> Option<(&Key, &V)>
-        ensures pair { option_map deref_pair result ≡ first_from self.now from.now strict }
-        ensures in_order { IsInOrder self.now }
+    /// The keys and the values from the least key on that is at least `from`, or above it where
+    /// `strict`.
+    pub fn parts_from(&self, from: &[u8], strict: bool) -> (&[Key], &[V])
+        ensures parts { zip result.0.now result.1.now ≡ pairs_from self.now from.now strict }
     {
         let at = start(&self.keys, from, strict);
-        Some((self.keys.get(at)?, self.values.get(at)?))
+        let (_, keys) = self.keys.split_at(at);
+        let (_, values) = self.values.split_at(at);
+        (keys, values)
+    }
+
+    /// All keys and all values.
+    pub fn parts(&self) -> (&[Key], &[V])
+        ensures { self.now ≡ zip result.0.now result.1.now }
+    {
+        (&self.keys, &self.values)
     }
 
     /// Puts the value at the key and gives the one that stood there. Where the run is full, and

@@ -6,3 +6,4 @@
 
 pub mod index;
 mod leaf;
+pub mod walk;

@@ -3,9 +3,8 @@ use Rattle.std.proofs.Common.{◌≡◌, ◌≢◌, ℕ, Bool, true, false, cond
 use Rattle.std.specs.List.{list_any, AllByRecursion}
 use Rattle.std.proofs.lemmas.List.Sorted.{IsPermutation-trans, IsPermutation-append_left, IsPermutation-to_front, IsPermutation-sym, IsPermutation-middle}
 use Rattle.ltx_model.specs.Operations.{Transaction}
-use Rattle.ltx_model.specs.Agenda.{Member, LiveSlot, Committed, number_of, committed_of, has_number, is_member, without_member, insert_before, commit_at_slot, agenda_after, agenda_from, serial, Timed, is_slot, commits_batch, moves_since, moves_until}
-use Rattle.ltx_lemmas.specs.Pairs.{IsPairwise}
-use Rattle.ltx_laws.specs.Structure.{has_slot, commits_after}
+use Rattle.ltx_model.specs.Agenda.{Member, LiveSlot, Committed, number_of, committed_of, has_number, is_member, without_member, insert_before, commit_at_slot, agenda_after, agenda_from, serial, Timed, is_slot, commits_batch, moves_since, moves_until, has_slot, commits_after}
+use Rattle.ltx_model.specs.Lists.{IsPairwise}
 use Rattle.ltx_lemmas.proofs.Lists.{any_append, any_map, any_agree, any_none_all, any_not_all, before_within, before_past, given_append, true_false, all_map}
 use Rattle.ltx_laws.proofs.Pairs.{same_number, all_of}
 

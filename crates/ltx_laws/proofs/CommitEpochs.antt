@@ -9,12 +9,12 @@ use Rattle.ltx_model.specs.Agenda.{Member, has_number, part_before, part_from, a
 use Rattle.ltx_model.specs.States.{Active, transaction_of, Base, IsSound, State, first_state, is_of, serial_through}
 use Rattle.ltx_model.specs.Histories.{closed, moved, after, state, state_from}
 use Rattle.ltx_model.specs.Answers.{IsLegalFrom, IsLegalWith}
+use Rattle.ltx_model.specs.Logs.{moves_through}
 use Rattle.ltx_model.proofs.OneMore.{legal-parts, legal-first}
 use Rattle.ltx_lemmas.proofs.Lists.{all_contains, contains_front, contains_back, contains_here, filter_here, filter_item, find_contains, given_item, given_here}
 use Rattle.ltx_lemmas.proofs.Serials.{serial_slot, serial_push, serial_parts, serial_home, serial_before, serial_without}
 use Rattle.ltx_laws.specs.Commits.{IsCommitOf, IsCommitReply}
 use Rattle.ltx_laws.specs.Drops.{IsLawful, AreLawful}
-use Rattle.ltx_laws.specs.Logs.{moves_through}
 use Rattle.ltx_laws.proofs.Standing.{commits_push, commits_none}
 use Rattle.ltx_laws.proofs.Places.{any_before, before_apart}
 use Rattle.ltx_laws.proofs.Agendas.{agenda_more, IsInserted, inserted_at_end, inserted_permutes}
@@ -28,7 +28,7 @@ use Rattle.ltx_laws.proofs.PlacesByCommit.{entry_is}
 use Rattle.ltx_laws.proofs.SlotsKept.{none_open, state_more}
 
 -- the committed members of the agenda are what the moves commit
-abbrev AreTheirs : List Timed → Type 0
+abbrev pub AreTheirs : List Timed → Type 0
 AreTheirs moves = IsPermutation (commits_of moves) (serial (agenda_from [] moves))
 
 -- one lawful move more
@@ -85,7 +85,7 @@ module _ (built : State → Line → Bool) (base : Base) (history : List Entry) 
   abbrev there : State
   there = state base history
 
-  theirs_through : AreTheirs (moves_through d there.moves)
+  pub theirs_through : AreTheirs (moves_through d there.moves)
   theirs_through =
       let t = timely_of built base history legal in
       let first = through_first d there.moves t.rising in

@@ -6,16 +6,15 @@ use Rattle.ltx_model.specs.declared.commands.Line.{Line}
 use Rattle.ltx_model.specs.declared.replies.Entry.{Entry}
 use Rattle.ltx_model.specs.Agenda.{Move, CommitShort, CommitHome, CommitBefore, Leave, Timed, agenda_from, serial}
 use Rattle.ltx_model.specs.States.{Kind, IsShort, IsPending, IsLive, Active, transaction_of, Base, IsSound, State, first_state, serial_through, rows_through}
-use Rattle.ltx_model.specs.Rows.{run}
+use Rattle.ltx_model.specs.Rows.{run, rows_after_last_writes}
 use Rattle.ltx_model.specs.Frames.{event_of, sealed}
 use Rattle.ltx_model.specs.Histories.{begun, answered, slot_after, slots_after, closed, moved, left, in_epoch, advanced, durable_if, made_durable, after, state, state_from}
 use Rattle.ltx_model.specs.Answers.{IsLegalFrom, IsLegalWith}
+use Rattle.ltx_model.specs.Lists.{IsPairwise}
+use Rattle.ltx_model.specs.Logs.{frames_from, frames_of, events_in, events_of, moves_through}
 use Rattle.ltx_model.proofs.OneMore.{state-append, legal-parts, run-none}
 use Rattle.ltx_lemmas.proofs.Lists.{all_map, filter_append, filter_nothing, filter_same, given_append, all_from}
-use Rattle.ltx_lemmas.specs.Writes.{rows_after_last_writes}
 use Rattle.ltx_lemmas.proofs.LastWrites.{last_writes_run}
-use Rattle.ltx_lemmas.specs.Pairs.{IsPairwise}
-use Rattle.ltx_laws.specs.Logs.{frames_from, frames_of, events_in, events_of, moves_through}
 use Rattle.ltx_laws.proofs.Transitions.{Cases, entry_case}
 use Rattle.ltx_laws.proofs.FloorCounts.{slots_of, advanced_moves}
 use Rattle.ltx_laws.proofs.Structures.{structure_of}

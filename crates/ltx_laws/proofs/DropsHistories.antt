@@ -4,14 +4,14 @@ use Rattle.std.proofs.lemmas.Bool.{leb-false, lt-leb, ne_eqb, false_from_ne_true
 use Rattle.std.specs.List.{cons_option, AllByRecursion}
 use Rattle.ltx_model.specs.declared.commands.Line.{Line}
 use Rattle.ltx_model.specs.declared.replies.Entry.{Entry}
-use Rattle.ltx_model.specs.Agenda.{LiveSlot, is_member, agenda_from, Move, Slot, CommitShort, CommitHome, CommitBefore, Leave, Timed, is_slot, serial}
+use Rattle.ltx_model.specs.Agenda.{LiveSlot, is_member, agenda_from, Move, Slot, CommitShort, CommitHome, CommitBefore, Leave, Timed, is_slot, serial, has_slot}
 use Rattle.ltx_model.specs.States.{Kind, IsShort, IsPending, IsLive, Step, Active, transaction_of, Base, IsSound, State, first_state, active_of, serial_through}
 use Rattle.ltx_model.specs.Histories.{begun, answered, slot_after, slots_after, closed, moved, left, in_epoch, advanced, durable_if, made_durable, state}
 use Rattle.ltx_model.specs.Answers.{IsLegalWith}
+use Rattle.ltx_model.specs.Lists.{IsPairwise}
 use Rattle.ltx_lemmas.proofs.Lists.{all_map, all_push, all_append, all_contains, filter_nothing}
 use Rattle.ltx_lemmas.proofs.Members.{member_push_other}
-use Rattle.ltx_lemmas.specs.Pairs.{IsPairwise}
-use Rattle.ltx_laws.specs.Structure.{has_slot, IsKnown, IsSlotOfLive, StandsAs, Stands, Structure}
+use Rattle.ltx_laws.specs.Structure.{IsKnown, IsSlotOfLive, StandsAs, Stands, Structure}
 use Rattle.ltx_laws.specs.Orders.{IsPrefix}
 use Rattle.ltx_laws.specs.Drops.{IsLawful, AreLawful, logged_agenda}
 use Rattle.ltx_laws.proofs.Transitions.{Cases, along}

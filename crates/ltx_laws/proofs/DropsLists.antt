@@ -3,11 +3,10 @@ use Rattle.std.proofs.Common.{◌≡◌, ◌⊎◌, inl, inr, ℕ, Bool, true, f
 use Rattle.std.proofs.lemmas.Bool.{both_ways, eqb-true, eq-eqb, ne_eqb, or_from, not-true, false_from_ne_true}
 use Rattle.std.specs.List.{list_any}
 use Rattle.ltx_model.specs.Operations.{Transaction}
-use Rattle.ltx_model.specs.Agenda.{Member, LiveSlot, Committed, number_of, has_number, is_member, without_member, insert_before, commit_at_slot, agenda_after, agenda_from, Move, Slot, CommitShort, CommitHome, CommitBefore, Leave, Timed, is_slot, serial}
+use Rattle.ltx_model.specs.Agenda.{Member, LiveSlot, Committed, number_of, has_number, is_member, without_member, insert_before, commit_at_slot, agenda_after, agenda_from, Move, Slot, CommitShort, CommitHome, CommitBefore, Leave, Timed, is_slot, serial, has_slot}
 use Rattle.ltx_lemmas.specs.Places.{is_before, AreApart}
 use Rattle.ltx_lemmas.proofs.Lists.{true_false, all_from, any_append, any_contains, any_item, filter_append, filter_item, filter_here, filter_same, filter_twice, contains_here, contains_later, contains_cases, contains_none, contains_parts, map_item}
 use Rattle.ltx_lemmas.proofs.Members.{same_number, apart_one, apart_push, apart_home, apart_without, apart_insert, member_without_same, home_number, before_member, insert_item}
-use Rattle.ltx_laws.specs.Structure.{has_slot}
 use Rattle.ltx_laws.specs.Drops.{leaves, is_leave, without_leaves, logged_agenda, has_left, IsLawful, AreLawful}
 use Rattle.ltx_laws.proofs.Agendas.{agenda_more}
 

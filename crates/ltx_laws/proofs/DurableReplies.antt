@@ -20,7 +20,8 @@ use Rattle.ltx_model.specs.Frames.{sealed, body_length}
 use Rattle.ltx_model.specs.Histories.{durable_if, reply_changes, after, state, state_from}
 use Rattle.ltx_model.specs.Shorts.{Held, held_table, holder, Change, first_change}
 use Rattle.ltx_model.specs.Batches.{Refusal, ByLate, ByContradicts, first_witness, target, waits}
-use Rattle.ltx_model.specs.Answers.{answer, staged, IsLegalFrom, IsLegalWith, verb_reply, begin_short, short_reply, begin_long, long_reply, operation, operation_in, operation_of_short, operation_of_batch, refusal, unless_in, counted, is_full, commit, commit_in, commit_short, checked, commit_live, commit_at, abort, advance, flush, flush_within, last_number, last_epoch, longest_log}
+use Rattle.ltx_model.specs.Answers.{answer, staged, IsLegalFrom, IsLegalWith, verb_reply, begin_short, short_reply, begin_long, long_reply, operation, operation_in, operation_of_short, operation_of_batch, refusal, unless_in, counted, is_full, commit, commit_in, commit_short, checked, commit_live, commit_at, abort, advance, flush, flush_within}
+use Rattle.ltx_model.specs.Limits.{last_number, last_epoch, longest_log}
 use Rattle.ltx_model.specs.Explained.{effect_of, Answers}
 use Rattle.ltx_model.proofs.OneMore.{after-is, legal-parts, legal-first}
 use Rattle.ltx_laws.specs.Commits.{IsCommitOf, IsCommitReply}

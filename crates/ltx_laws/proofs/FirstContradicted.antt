@@ -4,13 +4,12 @@ use Rattle.std.proofs.Common.{◌≡◌, ◌≢◌, ◌⊎◌, inl, inr, ℕ, �
 use Rattle.std.specs.List.{find, list_any}
 use Rattle.ltx_model.specs.declared.commands.Op.{Op}
 use Rattle.ltx_model.specs.declared.writes.Write.{Write}
-use Rattle.ltx_model.specs.Lists.{Numbered, numbered, before_first, from_first}
+use Rattle.ltx_model.specs.Lists.{Numbered, numbered, before_first, from_first, IsPairwise}
 use Rattle.ltx_model.specs.Keys.{Cell}
 use Rattle.ltx_model.specs.Operations.{Transaction, operations, cell_of_write, looks_up_key, writes_key, first_write}
 use Rattle.ltx_model.specs.Agenda.{Member, LiveSlot, Committed, number_of, committed_of, has_number, is_member, serial, part_before, part_from}
 use Rattle.ltx_model.specs.States.{State, LiveBatch}
 use Rattle.ltx_model.specs.Batches.{batch_operations, Witness, IsContradicted, IsFirstContradicted, unless_any, contradicted, contradicted_write, contradicts_of, first_contradicted}
-use Rattle.ltx_lemmas.specs.Pairs.{IsPairwise}
 use Rattle.ltx_lemmas.proofs.Lists.{all_contains, any_none, any_contains, any_item, any_not, contains_back, contains_here, contains_later, contains_cases, contains_none, find_passes, find_contains, find_any, before_fails, before_contains, from_contains, given_here, some_same, none_some, true_false}
 use Rattle.ltx_lemmas.proofs.Searches.{first_none, FirstGiven, first_given}
 use Rattle.ltx_laws.proofs.Pairs.{same_number}

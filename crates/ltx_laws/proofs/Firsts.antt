@@ -2,14 +2,13 @@
 use Rattle.std.proofs.Common.{◌≡◌, ◌⊎◌, inl, inr, ℕ, ◌+◌, ◌<◌, ◌≤◌, Bool, true, false, cond, ◌||◌, List, [], ◌∷◌, ◌++◌, Some, refl, sym, ap, ◌∙◌, subst, arith, is_le, Contains}
 use Rattle.std.specs.List.{find, AllByRecursion}
 use Rattle.ltx_model.specs.declared.writes.Write.{Write}
-use Rattle.ltx_model.specs.Lists.{Numbered, numbered_from, numbered}
+use Rattle.ltx_model.specs.Lists.{Numbered, numbered_from, numbered, IsPairwise}
 use Rattle.ltx_model.specs.Keys.{Cell, cell_cmp, same_cell, put_in_order, AreAbove, IsRising}
 use Rattle.ltx_model.specs.Operations.{Transaction, operations, cell_of_write, writes_of}
 use Rattle.ltx_model.specs.Batches.{cells_written, cells_written_by}
-use Rattle.ltx_lemmas.specs.Pairs.{IsPairwise}
 use Rattle.ltx_lemmas.proofs.Lists.{all_map, all_contains, contains_parts, contains_cases, contains_none, some_same, none_some, true_false}
-use Rattle.ltx_lemmas.proofs.Cells.{same_cell_same, cell_cmp_refl}
-use Rattle.ltx_lemmas.proofs.Rising.{rising_put}
+use Rattle.ltx_model.proofs.CellOrder.{same_cell_same, cell_itself}
+use Rattle.ltx_model.proofs.Rising.{rising_put}
 use Rattle.ltx_lemmas.proofs.Searches.{is_in}
 use Rattle.ltx_lemmas.proofs.Pairwise.{pairs_behind}
 
@@ -67,7 +66,7 @@ first_key test c q (x ∷ xs) rising e here passes = by_test (test x) refl e (fi
     by_same false is e later = later e
 
   at_head : (b : Bool) → same_cell x q ≡ b → (b || is_in q xs) ≡ true → is_le (cell_cmp x q) ≡ true
-  at_head true is e = ap is_le (ap (cell_cmp x) (sym (same_cell_same x q is)) ∙ cell_cmp_refl x)
+  at_head true is e = ap is_le (ap (cell_cmp x) (sym (same_cell_same x q is)) ∙ cell_itself x)
   at_head false is e = above xs rising.0 e
 
   not_head : (b : Bool) → same_cell x q ≡ b → test x ≡ false → (b || is_in q xs) ≡ true → is_in q xs ≡ true

@@ -4,12 +4,12 @@ use Rattle.std.proofs.lemmas.Bool.{or_parts, or_from, false_from_ne_true}
 use Rattle.std.specs.List.{list_any, filter_map, cons_option, AllByRecursion}
 use Rattle.ltx_model.specs.Lists.{change_first, without_first}
 use Rattle.ltx_model.specs.Operations.{Transaction}
-use Rattle.ltx_model.specs.Agenda.{Member, LiveSlot, Committed, Slot, Timed, is_slot, commits_batch, moves_since}
+use Rattle.ltx_model.specs.Agenda.{Member, LiveSlot, Committed, Slot, Timed, is_slot, commits_batch, moves_since, has_slot, commits_after}
 use Rattle.ltx_model.specs.States.{Declaration, Kind, IsShort, IsPending, IsLive, Step, Active, transaction_of, State, as_live}
 use Rattle.ltx_model.specs.Histories.{with_kind, made_live, with_step, slot_after, slots_after}
 use Rattle.ltx_model.specs.Batches.{counts_for_floor}
 use Rattle.ltx_lemmas.proofs.Lists.{true_false, all_map, any_append, any_contains, any_agree, any_none_all, any_not_all, all_without}
-use Rattle.ltx_laws.specs.Structure.{has_slot, commits_after, if_live, Stands, StandsAs}
+use Rattle.ltx_laws.specs.Structure.{if_live, Stands, StandsAs}
 use Rattle.ltx_laws.proofs.Agendas.{since_more}
 
 -- whether a live batch's number passes

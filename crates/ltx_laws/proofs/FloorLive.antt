@@ -4,10 +4,10 @@ use Rattle.std.specs.List.{find, list_any}
 use Rattle.ltx_model.specs.declared.commands.Line.{Line}
 use Rattle.ltx_model.specs.declared.replies.Entry.{Entry}
 use Rattle.ltx_model.specs.Operations.{Transaction}
-use Rattle.ltx_model.specs.Agenda.{Member, LiveSlot, Committed, number_of, has_number}
+use Rattle.ltx_model.specs.Agenda.{Member, LiveSlot, Committed, number_of, has_number, commits_after}
 use Rattle.ltx_model.specs.States.{Kind, IsShort, IsPending, IsLive, Active, Base, IsSound, State, LiveBatch, live_batches}
 use Rattle.ltx_model.specs.Histories.{state}
-use Rattle.ltx_model.specs.Batches.{counts_for_floor, floor, commits_after_slot}
+use Rattle.ltx_model.specs.Batches.{counts_for_floor, floor}
 use Rattle.ltx_model.specs.Answers.{IsLegalWith}
 use Rattle.ltx_laws.specs.Structure.{if_live, is_live_as, IsKnown, Structure}
 use Rattle.ltx_lemmas.proofs.Lists.{true_false, none_some, any_item, all_contains, contains_none, find_contains, find_passes, find_not}
@@ -26,7 +26,7 @@ module _ (base : Base) (s : State) (inv : Structure base s) where
   -- the member at the floor
   at_floor : live_batches s ≡ [] → (m : Member) → IsKnown s.active s.moves m → counts_for_floor s m ≡ true → ⊥
   at_floor none (LiveSlot n) known e = let found = any_item (is_live_as n) s.active known.live in none_lives none found.0 found.1 found.0.kind refl (found.0.number == n) found.2
-  at_floor none (Committed t) known e = true_false (sym e ∙ ap (list_any (λ (b : LiveBatch). commits_after_slot s b.tx.number t.number)) none)
+  at_floor none (Committed t) known e = true_false (sym e ∙ ap (list_any (λ (b : LiveBatch). commits_after s.moves b.tx.number t.number)) none)
 
   floor_lives : (f : ℕ) → floor s ≡ Some f → live_batches s ≡ [] → ⊥
   floor_lives f is none = by_find (find (counts_for_floor s) s.agenda) refl is where

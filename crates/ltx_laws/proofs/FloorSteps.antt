@@ -6,13 +6,13 @@ use Rattle.ltx_model.specs.declared.commands.Op.{Op}
 use Rattle.ltx_model.specs.declared.replies.Reply.{Reply}
 use Rattle.ltx_model.specs.Lists.{before_first, from_first, without_first}
 use Rattle.ltx_model.specs.Operations.{Transaction}
-use Rattle.ltx_model.specs.Agenda.{Member, LiveSlot, Committed, number_of, has_number, is_member, without_member, insert_before, commit_at_slot, CommitShort, CommitHome, CommitBefore, Leave, Timed, commits_batch, part_before, serial}
+use Rattle.ltx_model.specs.Agenda.{Member, LiveSlot, Committed, number_of, has_number, is_member, without_member, insert_before, commit_at_slot, CommitShort, CommitHome, CommitBefore, Leave, Timed, commits_batch, part_before, serial, commits_after}
 use Rattle.ltx_model.specs.States.{Declaration, Kind, IsShort, IsPending, IsLive, Active, transaction_of, Base, State, is_of, active_of, latest}
 use Rattle.ltx_model.specs.Histories.{begun, answered, with_kind, made_live, closed, moved, left, in_epoch, advanced, durable_if, made_durable}
-use Rattle.ltx_model.specs.Batches.{committed_ahead, writes_what_looks, commits_after_slot, overtakes, target, counts_for_floor, before_floor}
+use Rattle.ltx_model.specs.Batches.{committed_ahead, writes_what_looks, overtakes, target, counts_for_floor, before_floor}
 use Rattle.ltx_lemmas.proofs.Lists.{true_false, all_map, all_find, all_from, all_contains, before_past, before_fails, before_contains, parts_join, find_passes, find_contains, filter_append, filter_all}
 use Rattle.ltx_lemmas.proofs.Members.{apart_one}
-use Rattle.ltx_laws.specs.Structure.{commits_after, if_live, IsKnown, Structure}
+use Rattle.ltx_laws.specs.Structure.{if_live, IsKnown, Structure}
 use Rattle.ltx_laws.specs.Orders.{IsPrefix}
 use Rattle.ltx_laws.proofs.Transitions.{Cases, live_of}
 use Rattle.ltx_laws.proofs.Targets.{target_found}
@@ -88,7 +88,7 @@ module _ (base : Base) (s : State) (structure : Structure base s) where
     overtaken_counts (LiveSlot j) e = refl
     overtaken_counts (Committed t) e =
         let ahead = and_parts (committed_ahead s (live_of o d snapshot) t) (writes_what_looks (live_of o d snapshot) t) e in
-        let later = and_parts (commits_after_slot s o.number t.number) (is_member (part_before o.number s.agenda) t.number) ahead.0 in
+        let later = and_parts (commits_after s.moves o.number t.number) (is_member (part_before o.number s.agenda) t.number) ahead.0 in
         counts_by s o d snapshot t there kind later.0
 
     pub target_counts : (p : ℕ) → target s (live_of o d snapshot) ≡ Some p → (m : Member) × Contains s.agenda m × (counts_for_floor s m ≡ true) × (number_of m ≡ p)
@@ -148,7 +148,7 @@ module _ (base : Base) (s : State) (structure : Structure base s) where
 
   answered_floor : (session : ℕ) (op : Op) (reply : Reply) → IsPrefix front (before_floor (answered s op reply session))
   answered_floor session op reply = same_agenda (answered s op reply session) refl (λ t free.
-      live_step (λ k. commits_after s.moves k t.number) (is_of session) (record { op = op; reply = reply; latest = latest s }) s.active ∙ free)
+      live_step (λ k. commits_after s.moves k t.number) (is_of session) (record { op = op; reply = reply; order = serial s.agenda; latest = latest s }) s.active ∙ free)
 
   advanced_floor : (epoch : ℕ) → IsPrefix front (before_floor (advanced s epoch))
   advanced_floor epoch =

@@ -5,10 +5,10 @@ use Rattle.std.specs.List.{find, AllByRecursion}
 use Rattle.ltx_model.specs.declared.commands.Line.{Line}
 use Rattle.ltx_model.specs.declared.replies.Entry.{Entry}
 use Rattle.ltx_model.specs.Operations.{Transaction}
-use Rattle.ltx_model.specs.Agenda.{Member, LiveSlot, Committed, number_of, has_number, is_member, part_before}
+use Rattle.ltx_model.specs.Agenda.{Member, LiveSlot, Committed, number_of, has_number, is_member, part_before, commits_after}
 use Rattle.ltx_model.specs.States.{Kind, IsShort, IsPending, IsLive, Active, Base, IsSound, State, LiveBatch, live_batches}
 use Rattle.ltx_model.specs.Histories.{state}
-use Rattle.ltx_model.specs.Batches.{commits_after_slot, counts_for_floor, floor, before_floor}
+use Rattle.ltx_model.specs.Batches.{counts_for_floor, floor, before_floor}
 use Rattle.ltx_model.specs.Answers.{IsLegalWith}
 use Rattle.ltx_lemmas.specs.Places.{AreApart}
 use Rattle.ltx_lemmas.proofs.Lists.{true_false, none_some, any_item, any_contains, all_contains, find_contains, find_passes, find_none, find_splits, before_contains, before_past, before_none}
@@ -36,14 +36,14 @@ module _ (base : Base) (s : State) (inv : Structure base s) where
     by_kind o here IsShort kind is = absurd (true_false (sym is))
     by_kind o here (IsPending d) kind is = absurd (true_false (sym is))
     by_kind o here (IsLive d snapshot) kind is = (live_of o d snapshot, live_here s o d snapshot here kind, inl (same_number o.number n is))
-  counts_is (Committed t) known e = let found = any_item (λ (b : LiveBatch). commits_after_slot s b.tx.number t.number) (live_batches s) e in (found.0, found.1, inr found.2)
+  counts_is (Committed t) known e = let found = any_item (λ (b : LiveBatch). commits_after s.moves b.tx.number t.number) (live_batches s) e in (found.0, found.1, inr found.2)
 
   counts_from : (m : Member) → IsKnown s.active s.moves m → CountsForFloor s (number_of m) → counts_for_floor s m ≡ true
   counts_from (LiveSlot n) known c = refl
   counts_from (Committed t) known (b, live, inl same) =
       let h = open_batch s b live in
       absurd (all_contains (λ (u : Active). u.number ≢ t.number) s.active h.active known h.here (ap (λ (x : Transaction). x.number) h.tx ∙ same))
-  counts_from (Committed t) known (b, live, inr is) = any_contains (λ (b : LiveBatch). commits_after_slot s b.tx.number t.number) (live_batches s) b live is
+  counts_from (Committed t) known (b, live, inr is) = any_contains (λ (b : LiveBatch). commits_after s.moves b.tx.number t.number) (live_batches s) b live is
 
   counts_at : (n : ℕ) (m : Member) → Contains s.agenda m → has_number n m ≡ true → CountsForFloor s n → counts_for_floor s m ≡ true
   counts_at n m here is c = counts_from m (known_in m here) (subst (CountsForFloor s) (sym (same_number (number_of m) n is)) c)

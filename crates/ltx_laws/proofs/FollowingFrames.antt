@@ -13,11 +13,11 @@ use Rattle.ltx_model.specs.Histories.{closed, left, in_epoch, advanced, durable_
 use Rattle.ltx_model.specs.Batches.{overtakes, target}
 use Rattle.ltx_model.specs.Frames.{LogEvent, SlotEvent, ShortEvent, BatchEvent, event_of}
 use Rattle.ltx_model.specs.Answers.{IsLegalWith}
-use Rattle.ltx_lemmas.specs.Writes.{rows_after_writes}
+use Rattle.ltx_model.specs.Rows.{rows_after_writes}
+use Rattle.ltx_model.specs.Logs.{frames_of, events_in, events_of, moves_through}
+use Rattle.ltx_model.specs.Played.{Played, PlayedSlot, PlayedCommit, number_played, is_played, commit_there, without_played, put_before, after_event, after_events, played_list, rows_after_played, IsTargetPlayed, IsLawfulEvent, AreLawfulEvents}
 use Rattle.ltx_lemmas.proofs.Lists.{all_push, all_append, all_map, all_find, all_filter, all_contains, contains_back, find_contains, before_past}
 use Rattle.ltx_laws.specs.Structure.{Structure}
-use Rattle.ltx_laws.specs.Logs.{frames_of, events_in, events_of, moves_through}
-use Rattle.ltx_laws.specs.Played.{Played, PlayedSlot, PlayedCommit, number_played, is_played, commit_there, without_played, put_before, after_event, after_events, played_list, rows_after_played, IsTargetPlayed, IsLawfulEvent, AreLawfulEvents}
 use Rattle.ltx_laws.proofs.Transitions.{Cases, along, live_of}
 use Rattle.ltx_laws.proofs.Structures.{structure_cases, first_structure}
 use Rattle.ltx_laws.proofs.FloorCounts.{slot_if, slots_of, advanced_moves}

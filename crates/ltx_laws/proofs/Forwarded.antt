@@ -6,16 +6,15 @@ use Rattle.ltx_model.specs.declared.commands.Verb.TheVariants as verbs
 use Rattle.ltx_model.specs.declared.replies.Entry.{Entry}
 use Rattle.ltx_model.specs.declared.replies.Reply.{Reply}
 use Rattle.ltx_model.specs.declared.replies.Reply.TheVariants as replies
-use Rattle.ltx_model.specs.Lists.{before_first}
+use Rattle.ltx_model.specs.Lists.{before_first, IsPairwise}
 use Rattle.ltx_model.specs.Operations.{Transaction}
-use Rattle.ltx_model.specs.Agenda.{Member, LiveSlot, Committed, number_of, serial, Slot, CommitShort, CommitHome, CommitBefore, Leave, Timed}
+use Rattle.ltx_model.specs.Agenda.{Member, LiveSlot, Committed, number_of, serial, Slot, CommitShort, CommitHome, CommitBefore, Leave, Timed, has_slot}
 use Rattle.ltx_model.specs.States.{Kind, IsShort, IsPending, IsLive, Active, transaction_of, Base, IsSound, State, first_state, active_of, order}
 use Rattle.ltx_model.specs.Histories.{session_of, closed, left, ended, slot_after, slots_after, in_epoch, durable_if, made_durable, after, state, state_from}
 use Rattle.ltx_model.specs.Answers.{staged, IsLegalFrom, IsLegalWith}
 use Rattle.ltx_model.specs.Explained.{effect_of}
 use Rattle.ltx_model.proofs.OneMore.{state-push}
-use Rattle.ltx_lemmas.specs.Pairs.{IsPairwise}
-use Rattle.ltx_laws.specs.Structure.{has_slot, forwards, is_forwarded, IsBefore, Structure}
+use Rattle.ltx_laws.specs.Structure.{forwards, is_forwarded, IsBefore, Structure}
 use Rattle.ltx_laws.specs.Commits.{IsPrintedForwarded}
 use Rattle.ltx_laws.specs.Orders.{StandsBefore}
 use Rattle.ltx_lemmas.proofs.Lists.{true_false, all_mapped}

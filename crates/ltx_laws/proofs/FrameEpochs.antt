@@ -8,9 +8,9 @@ use Rattle.ltx_model.specs.States.{Base, IsSound, State, first_state}
 use Rattle.ltx_model.specs.Histories.{after}
 use Rattle.ltx_model.specs.Frames.{event_of, sealed}
 use Rattle.ltx_model.specs.Answers.{IsLegalFrom, IsLegalWith}
-use Rattle.ltx_lemmas.specs.Pairs.{IsPairwise}
-use Rattle.ltx_laws.specs.Logs.{frames_from, frames_of, events_of}
-use Rattle.ltx_laws.specs.Played.{epoch_of, NeverFalls}
+use Rattle.ltx_model.specs.Lists.{IsPairwise}
+use Rattle.ltx_model.specs.Logs.{frames_from, frames_of, events_of}
+use Rattle.ltx_model.specs.Played.{epoch_of, NeverFalls}
 use Rattle.ltx_laws.proofs.Pairs.{pairs_filter}
 use Rattle.ltx_laws.proofs.Transitions.{entry_case}
 use Rattle.ltx_laws.proofs.DropsHistories.{IsTimelyState, first_timely, timely_state_cases}
@@ -37,7 +37,7 @@ epochs_rise (m ∷ moves) rising = by_move m.move (epochs_above m.epoch moves ri
   by_move (CommitBefore t target) above rest = (above, rest)
   by_move (Leave n) above rest = rest
 
-sealed_rises : (s : State) → IsPairwise (λ a b. a.epoch ≤ b.epoch) s.moves → NeverFalls (sealed s)
+pub sealed_rises : (s : State) → IsPairwise (λ a b. a.epoch ≤ b.epoch) s.moves → NeverFalls (sealed s)
 sealed_rises s rising =
     subst (λ l. IsPairwise (λ a b. a ≤ b) (filter_map epoch_of l)) (sym (sealed_events s))
     (epochs_rise (filter (λ m. nat_lt s.durable m.epoch && nat_lt m.epoch s.epoch) s.moves) (pairs_filter (λ (a : Timed) (b : Timed). a.epoch ≤ b.epoch) (λ (m : Timed). nat_lt s.durable m.epoch && nat_lt m.epoch s.epoch) s.moves rising))

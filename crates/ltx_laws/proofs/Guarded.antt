@@ -1,15 +1,14 @@
 -- The guards of live batches, kept by each move.
 use Rattle.std.proofs.Common.{◌≡◌, ◌≢◌, ◌⊎◌, inl, inr, ℕ, ◌<◌, Bool, true, false, cond, not, ◌==◌, List, [], ◌∷◌, ◌++◌, map, Some, None, refl, sym, ◌∙◌, subst, ne_eqb, arith, Contains}
 use Rattle.std.specs.List.{find, AllByRecursion}
-use Rattle.ltx_model.specs.Lists.{without_first}
+use Rattle.ltx_model.specs.Lists.{without_first, IsPairwise}
 use Rattle.ltx_model.specs.Operations.{Transaction, operations}
-use Rattle.ltx_model.specs.Agenda.{Member, LiveSlot, Committed, number_of, has_number, is_member, without_member, insert_before, commit_at_slot, part_before, part_from, CommitShort, CommitHome, CommitBefore, Leave, Timed, is_slot}
+use Rattle.ltx_model.specs.Agenda.{Member, LiveSlot, Committed, number_of, has_number, is_member, without_member, insert_before, commit_at_slot, part_before, part_from, CommitShort, CommitHome, CommitBefore, Leave, Timed, is_slot, has_slot}
 use Rattle.ltx_model.specs.States.{Declaration, Kind, IsShort, IsPending, IsLive, Active, transaction_of, Base, State, LiveBatch, live_batches, is_of, active_of}
 use Rattle.ltx_model.specs.Histories.{closed, moved, left, ended}
 use Rattle.ltx_model.specs.Shorts.{held_table}
 use Rattle.ltx_model.specs.Batches.{overtakes, target, is_from, elder_reader}
-use Rattle.ltx_lemmas.specs.Pairs.{IsPairwise}
-use Rattle.ltx_laws.specs.Structure.{has_slot, is_forwarded, IsKnown, IsBefore, IsSlotOfLive, IsLiveBatch, StandsAs, Stands, Structure}
+use Rattle.ltx_laws.specs.Structure.{is_forwarded, IsKnown, IsBefore, IsSlotOfLive, IsLiveBatch, StandsAs, Stands, Structure}
 use Rattle.ltx_laws.specs.Guards.{LooksIntoNone, IsGuarded, GuardsAs, AreGuarded}
 use Rattle.ltx_lemmas.proofs.Lists.{all_map, all_without, all_from, all_contains, find_none, true_false, any_item}
 use Rattle.ltx_laws.proofs.Pairs.{same_number, all_of, all_both, pairs_all, pairs_both, pairs_push, pairs_filter, pairs_map, pairs_insert}

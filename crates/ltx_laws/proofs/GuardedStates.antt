@@ -6,12 +6,12 @@ use Rattle.ltx_model.specs.declared.commands.Line.{Line}
 use Rattle.ltx_model.specs.declared.replies.Entry.{Entry}
 use Rattle.ltx_model.specs.declared.replies.Reply.{Reply}
 use Rattle.ltx_model.specs.Operations.{Transaction}
-use Rattle.ltx_model.specs.Agenda.{Member, LiveSlot, Committed, number_of, serial, Slot, Timed}
+use Rattle.ltx_model.specs.Agenda.{Member, LiveSlot, Committed, number_of, serial, Slot, Timed, has_slot}
 use Rattle.ltx_model.specs.States.{Declaration, Kind, IsShort, IsPending, IsLive, Active, Base, State, first_state, is_of, active_of, latest}
 use Rattle.ltx_model.specs.Histories.{with_active, moved, with_step, with_kind, begun, answered, advanced, durable_if, made_durable, state}
 use Rattle.ltx_model.specs.Answers.{IsLegalWith}
-use Rattle.ltx_lemmas.specs.Pairs.{IsPairwise}
-use Rattle.ltx_laws.specs.Structure.{has_slot, IsPendingBatch, Structure}
+use Rattle.ltx_model.specs.Lists.{IsPairwise}
+use Rattle.ltx_laws.specs.Structure.{IsPendingBatch, Structure}
 use Rattle.ltx_laws.specs.Guards.{IsGuarded, GuardsAs, AreGuarded}
 use Rattle.ltx_lemmas.proofs.Lists.{all_map, all_push, all_change, without_nothing}
 use Rattle.ltx_laws.proofs.Pairs.{all_of, all_both, pairs_push, pairs_from, pairs_weaken}
@@ -106,7 +106,7 @@ module _ (s : State) (guards : AreGuarded s) where
       (all_push (λ u. GuardsAs s.agenda s.moves u.kind u.number) s.active (record { session = session; kind = kind; number = n; steps = [] }) guards own)
 
   answered_guards : (op : Op) (reply : Reply) (session : ℕ) → AreGuarded (answered s op reply session)
-  answered_guards op reply session = all_change (λ u. GuardsAs s.agenda s.moves u.kind u.number) (λ u. GuardsAs s.agenda s.moves u.kind u.number) (is_of session) (with_step (record { op = op; reply = reply; latest = latest s })) s.active (λ u g. g) (λ u found g. g) guards
+  answered_guards op reply session = all_change (λ u. GuardsAs s.agenda s.moves u.kind u.number) (λ u. GuardsAs s.agenda s.moves u.kind u.number) (is_of session) (with_step (record { op = op; reply = reply; order = serial s.agenda; latest = latest s })) s.active (λ u g. g) (λ u found g. g) guards
 
   durable_guards : (epoch : ℕ) → AreGuarded (made_durable s epoch)
   durable_guards epoch = by_test (nat_lt s.durable epoch) where

@@ -14,7 +14,7 @@ module _ (key : Cell) where
   abbrev writes : Transaction → Bool
   writes t = writes_key (operations t) key
 
-  found_by : (ts : List Transaction) (n : ℕ) → IsLastWriter ts key n → last_writer_from None key ts ≡ Some n
+  pub found_by : (ts : List Transaction) (n : ℕ) → IsLastWriter ts key n → last_writer_from None key ts ≡ Some n
   found_by ts n h =
       ap (last_writer_from None key) h.parts ∙ last_writer_append None key h.front (h.tx ∷ h.back)
       ∙ ap (λ b. last_writer_from (cond b (Some h.tx.number) (last_writer_from None key h.front)) key h.back) h.writes

@@ -8,10 +8,10 @@ use Rattle.ltx_model.specs.States.{Base, IsSound, State, first_state, serial_thr
 use Rattle.ltx_model.specs.Histories.{after, state, state_from}
 use Rattle.ltx_model.specs.Frames.{Frame, sealed}
 use Rattle.ltx_model.specs.Answers.{IsLegalWith}
+use Rattle.ltx_model.specs.Logs.{frames_from, frames_of, events_in}
+use Rattle.ltx_model.specs.Played.{played_list, committed_numbers, rows_after_played}
 use Rattle.ltx_model.proofs.OneMore.{legal-parts}
-use Rattle.ltx_laws.specs.Logs.{frames_from, frames_of, events_in}
 use Rattle.ltx_laws.specs.Orders.{IsPrefix}
-use Rattle.ltx_laws.specs.Played.{played_list, committed_numbers, rows_after_played}
 use Rattle.ltx_laws.proofs.Structures.{structure_of}
 use Rattle.ltx_laws.proofs.DropsFrames.{closed_over}
 use Rattle.ltx_laws.proofs.PlayedFrames.{order_played, rows_played}

@@ -5,17 +5,16 @@ use Rattle.std.specs.List.{cons_option, list_any, AllByRecursion}
 use Rattle.ltx_model.specs.declared.commands.Line.{Line}
 use Rattle.ltx_model.specs.declared.replies.Entry.{Entry}
 use Rattle.ltx_model.specs.Lists.{before_first}
-use Rattle.ltx_model.specs.Agenda.{Member, LiveSlot, Committed, number_of, has_number, is_member, part_before, without_member, agenda_from, Move, Slot, CommitShort, CommitHome, CommitBefore, Leave, Timed}
+use Rattle.ltx_model.specs.Agenda.{Member, LiveSlot, Committed, number_of, has_number, is_member, part_before, without_member, agenda_from, Move, Slot, CommitShort, CommitHome, CommitBefore, Leave, Timed, has_slot}
 use Rattle.ltx_model.specs.States.{Base, IsSound, State, first_state}
 use Rattle.ltx_model.specs.Histories.{after, state}
-use Rattle.ltx_model.specs.Frames.{event_of, sealed, writes_in}
+use Rattle.ltx_model.specs.Frames.{LogEvent, Frame, event_of, sealed, writes_in}
 use Rattle.ltx_model.specs.Answers.{IsLegalFrom, IsLegalWith}
-use Rattle.ltx_laws.specs.Structure.{has_slot}
+use Rattle.ltx_model.specs.Logs.{frames_of, frames_from, events_in, events_of, moves_through}
+use Rattle.ltx_model.specs.Played.{PlayedSlot, PlayedCommit, is_played, put_before, AreLawfulEvents, IsCommitAbove, IsCommitUpTo, DoEpochsRise, IsClosed, AreCommitsNew}
 use Rattle.ltx_laws.specs.Orders.{IsPrefix}
 use Rattle.ltx_laws.specs.Drops.{has_left, logged_agenda, IsLawful, AreLawful}
-use Rattle.ltx_laws.specs.Logs.{frames_of, frames_from, events_in, events_of, moves_through}
-use Rattle.ltx_laws.specs.Played.{PlayedSlot, PlayedCommit, is_played, put_before, AreLawfulEvents, IsWithin, AreInTime}
-use Rattle.ltx_lemmas.proofs.Lists.{true_false, any_item, any_contains, filter_here, filter_item, map_here, contains_none}
+use Rattle.ltx_lemmas.proofs.Lists.{true_false, any_item, any_contains, all_map, filter_here, filter_item, map_here, contains_none}
 use Rattle.ltx_laws.proofs.Places.{and_left, and_right}
 use Rattle.ltx_laws.proofs.Transitions.{entry_case}
 use Rattle.ltx_laws.proofs.DropsLists.{is_kept, IsLoggedAfter, slot_stays, logs_more, logs_same, logged_step, lawful_front}
@@ -100,12 +99,33 @@ lawful_from past (m ∷ moves) h lawful = by_move m.move lawful.0 (lawful_from (
 first_logged : IsLoggedAfter []
 first_logged = record { same = refl; apart = tt; slotted = λ n e. absurd (true_false (sym e)); committed = λ t c. absurd (contains_none (Committed t) c) }
 
+-- the epoch of a commit is above one epoch and at most another
+abbrev IsWithin : ℕ → ℕ → LogEvent → Type 0
+IsWithin lower upper e = IsCommitAbove lower e × IsCommitUpTo upper e
+
+-- the epochs of frames rise, and the commits of each lie between
+abbrev AreInTime : ℕ → List Frame → Type 0
+AreInTime before [] = Unit {0}
+AreInTime before (f ∷ fs) = (before < f.epoch) × AllByRecursion (IsWithin before f.epoch) f.events × AreInTime f.epoch fs
+
+frames_rise : (before : ℕ) (fs : List Frame) → AreInTime before fs → DoEpochsRise before fs
+frames_rise before [] timed = tt
+frames_rise before (f ∷ fs) timed = (timed.0, frames_rise f.epoch fs timed.2)
+
+frames_closed : (before : ℕ) (fs : List Frame) → AreInTime before fs → AllByRecursion IsClosed fs
+frames_closed before [] timed = tt
+frames_closed before (f ∷ fs) timed = (all_map (IsWithin before f.epoch) (IsCommitUpTo f.epoch) (λ e within. within.1) f.events timed.1, frames_closed f.epoch fs timed.2)
+
+frames_new : (before : ℕ) (fs : List Frame) → AreInTime before fs → AreCommitsNew before fs
+frames_new before [] timed = tt
+frames_new before (f ∷ fs) timed = (all_map (IsWithin before f.epoch) (IsCommitAbove before) (λ e within. within.0) f.events timed.1, frames_new f.epoch fs timed.2)
+
 -- the commits of moves between two epochs
 within_moves : (lower epoch : ℕ) (moves : List Timed) → AllByRecursion (IsWithin lower (epoch - 1)) (events_of (filter (λ m. nat_lt lower m.epoch && nat_lt m.epoch epoch) moves))
 within_moves lower epoch [] = tt
 within_moves lower epoch (m ∷ moves) = by_test (nat_lt lower m.epoch && nat_lt m.epoch epoch) refl (within_moves lower epoch moves) where
   by_move : (v : Move) → lower < m.epoch → m.epoch ≤ epoch - 1 → AllByRecursion (IsWithin lower (epoch - 1)) (events_of (filter (λ x. nat_lt lower x.epoch && nat_lt x.epoch epoch) moves)) → AllByRecursion (IsWithin lower (epoch - 1)) (cons_option (event_of m.epoch v) (events_of (filter (λ x. nat_lt lower x.epoch && nat_lt x.epoch epoch) moves)))
-  by_move (Slot n) low high all = (tt, all)
+  by_move (Slot n) low high all = ((tt, tt), all)
   by_move (CommitShort t) low high all = ((low, high), all)
   by_move (CommitHome t) low high all = ((low, high), all)
   by_move (CommitBefore t p) low high all = ((low, high), all)
@@ -118,12 +138,15 @@ within_moves lower epoch (m ∷ moves) = by_test (nat_lt lower m.epoch && nat_lt
       let under : m.epoch < epoch = ltb-true m.epoch epoch (and_right (nat_lt lower m.epoch) (nat_lt m.epoch epoch) is) in
       by_move m.move low (let high : m.epoch ≤ epoch - 1 = omega arith in high) all
 
-sealed_epoch : (s : State) → (sealed s).epoch ≡ s.epoch - 1
+pub sealed_epoch : (s : State) → (sealed s).epoch ≡ s.epoch - 1
 unfolding sealed
 sealed_epoch s = refl
 
 sealed_within : (s : State) → AllByRecursion (IsWithin s.durable (sealed s).epoch) (sealed s).events
 sealed_within s = subst (λ e. AllByRecursion (IsWithin s.durable e) (sealed s).events) (sym (sealed_epoch s)) (subst (AllByRecursion (IsWithin s.durable (s.epoch - 1))) (sym (sealed_events s)) (within_moves s.durable s.epoch s.moves))
+
+pub sealed_closed : (s : State) → IsClosed (sealed s)
+sealed_closed s = all_map (IsWithin s.durable (sealed s).epoch) (IsCommitUpTo (sealed s).epoch) (λ e within. within.1) (sealed s).events (sealed_within s)
 
 -- the frames of entries
 timed_from : (built : State → Line → Bool) (s : State) (history : List Entry) → s.durable < s.epoch → IsLegalFrom built s history → AreInTime s.durable (frames_from s history)
@@ -158,5 +181,14 @@ module _ (built : State → Line → Bool) (base : Base) (history : List Entry) 
   pub events_lawful : AreLawfulEvents [] (events_in (frames_of base history))
   events_lawful = subst (AreLawfulEvents []) (sym (frames_through built base history sound legal)) (lawful_from [] (moves_through s.durable s.moves) first_logged durable_lawful)
 
-  pub frames_timed : AreInTime base.durable (frames_of base history)
+  frames_timed : AreInTime base.durable (frames_of base history)
   frames_timed = timed_from built (first_state base) history (let h : base.durable < base.durable + 1 = omega arith in h) legal
+
+  pub epochs_rise : DoEpochsRise base.durable (frames_of base history)
+  epochs_rise = frames_rise base.durable (frames_of base history) frames_timed
+
+  pub all_closed : AllByRecursion IsClosed (frames_of base history)
+  all_closed = frames_closed base.durable (frames_of base history) frames_timed
+
+  pub commits_new : AreCommitsNew base.durable (frames_of base history)
+  commits_new = frames_new base.durable (frames_of base history) frames_timed

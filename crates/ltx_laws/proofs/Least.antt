@@ -7,11 +7,11 @@ use Rattle.ltx_model.specs.declared.replies.Entry.{Entry}
 use Rattle.ltx_model.specs.declared.replies.Reply.{Reply}
 use Rattle.ltx_model.specs.Lists.{without_first}
 use Rattle.ltx_model.specs.Operations.{Transaction}
-use Rattle.ltx_model.specs.Agenda.{Slot, CommitShort, CommitHome, CommitBefore, Leave, Move, Timed, is_slot, commits_batch, moves_since, serial}
+use Rattle.ltx_model.specs.Agenda.{Slot, CommitShort, CommitHome, CommitBefore, Leave, Move, Timed, is_slot, commits_batch, moves_since, serial, has_slot}
 use Rattle.ltx_model.specs.States.{Declaration, Kind, IsShort, IsPending, IsLive, Active, transaction_of, Base, State, is_of, active_of, latest}
 use Rattle.ltx_model.specs.Histories.{with_active, closed, moved, with_step, with_kind, begun, answered, left, ended, slot_after, slots_after, in_epoch, advanced, durable_if, made_durable, after, state_from}
 use Rattle.ltx_model.specs.Answers.{staged, IsLegalFrom}
-use Rattle.ltx_laws.specs.Structure.{has_slot, IsLiveBatch, IsPendingBatch, Structure}
+use Rattle.ltx_laws.specs.Structure.{IsLiveBatch, IsPendingBatch, Structure}
 use Rattle.ltx_lemmas.proofs.Lists.{all_map, all_push, all_without, all_find, all_change, without_nothing}
 use Rattle.ltx_laws.proofs.Pairs.{same_number, all_replace}
 use Rattle.ltx_laws.proofs.Agendas.{any_push_not, any_kept, since_more, since_new}
@@ -82,7 +82,7 @@ module _ (base : Base) (n : ℕ) (s : State) (inv : Structure base s) (h : IsLea
   answered_least : (op : Op) (reply : Reply) (session : ℕ) → IsLeastFrom n (answered s op reply session)
   answered_least op reply session = record {
     slotted = h.slotted;
-    lives = all_change (λ o. IsLiveKind o.kind → n ≤ o.number) (λ o. IsLiveKind o.kind → n ≤ o.number) (is_of session) (with_step (record { op = op; reply = reply; latest = latest s })) s.active (λ u e. e) (λ u found e. e) h.lives;
+    lives = all_change (λ o. IsLiveKind o.kind → n ≤ o.number) (λ o. IsLiveKind o.kind → n ≤ o.number) (is_of session) (with_step (record { op = op; reply = reply; order = serial s.agenda; latest = latest s })) s.active (λ u e. e) (λ u found e. e) h.lives;
     commits = h.commits;
   }
 

@@ -63,3 +63,16 @@ pub mod AnsweredShorts
 pub mod FollowingFrames
 pub mod SlotEpochs
 pub mod InsideAreas
+pub mod Begins
+pub mod PrintedCommits
+pub mod PrintedPlaces
+pub mod WithinBounds
+pub mod FrameFronts
+pub mod Numbered
+pub mod NextBases
+pub mod NumberLists
+pub mod SlotMarks
+pub mod MoveCounts
+pub mod SealedFrames
+pub mod FloorMembers
+pub mod VersionMarks

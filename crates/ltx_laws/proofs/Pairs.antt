@@ -1,9 +1,8 @@
 -- What holds of each pair of a list, or of each item, over the changes that are made to open transactions and to the agenda.
 use Rattle.std.proofs.Common.{◌≡◌, ℕ, Bool, true, false, cond, ◌==◌, List, [], ◌∷◌, ◌++◌, map, filter, Some, subst, eqb-true}
 use Rattle.std.specs.List.{find, AllByRecursion}
-use Rattle.ltx_model.specs.Lists.{change_first, without_first, before_first, from_first}
+use Rattle.ltx_model.specs.Lists.{change_first, without_first, before_first, from_first, IsPairwise}
 use Rattle.ltx_model.specs.Agenda.{Member, has_number, insert_before, part_before, part_from}
-use Rattle.ltx_lemmas.specs.Pairs.{IsPairwise}
 use Rattle.ltx_lemmas.proofs.Lists.{all_map, all_push, all_filter, all_without, all_find, some_same}
 
 -- numbers and tests

@@ -5,9 +5,8 @@ use Rattle.ltx_model.specs.Agenda.{part_from}
 use Rattle.ltx_lemmas.proofs.Lists.{all_from, all_filter, any_contains, some_same}
 use Rattle.std.proofs.Common.{◌≡◌, ◌≢◌, ℕ, Bool, true, false, cond, not, ◌||◌, ◌&&◌, List, [], ◌∷◌, refl, sym, ap, ◌∙◌, subst}
 use Rattle.std.specs.List.{list_any, AllByRecursion}
-use Rattle.ltx_model.specs.Lists.{before_first}
+use Rattle.ltx_model.specs.Lists.{before_first, IsPairwise}
 use Rattle.ltx_model.specs.Agenda.{Member, number_of, has_number, is_member, without_member, part_before}
-use Rattle.ltx_lemmas.specs.Pairs.{IsPairwise}
 use Rattle.ltx_lemmas.proofs.Lists.{true_false, before_fails}
 use Rattle.ltx_laws.proofs.Pairs.{same_number}
 

@@ -5,12 +5,12 @@ use Rattle.ltx_model.specs.declared.commands.Line.{Line}
 use Rattle.ltx_model.specs.declared.replies.Entry.{Entry}
 use Rattle.ltx_model.specs.Lists.{before_first}
 use Rattle.ltx_model.specs.Operations.{Transaction}
-use Rattle.ltx_model.specs.Agenda.{Member, LiveSlot, Committed, number_of, has_number, is_member, without_member, insert_before, commit_at_slot, serial, part_before, part_from}
+use Rattle.ltx_model.specs.Agenda.{Member, LiveSlot, Committed, number_of, has_number, is_member, without_member, insert_before, commit_at_slot, serial, part_before, part_from, commits_after}
 use Rattle.ltx_model.specs.States.{Declaration, IsShort, IsLive, Active, transaction_of, Base, IsSound, State, first_state, order}
 use Rattle.ltx_model.specs.Histories.{after, state, state_from}
 use Rattle.ltx_model.specs.Answers.{staged, IsLegalFrom, IsLegalWith}
 use Rattle.ltx_model.proofs.OneMore.{state-push, legal-parts, legal-first}
-use Rattle.ltx_laws.specs.Structure.{commits_after, IsLiveBatch, IsOpenShort, Structure}
+use Rattle.ltx_laws.specs.Structure.{IsLiveBatch, IsOpenShort, Structure}
 use Rattle.ltx_laws.specs.Commits.{IsCommitOf, IsHomeReply, IsForwardedReply, StandsJustBefore}
 use Rattle.ltx_laws.specs.Orders.{StandsBefore}
 use Rattle.ltx_lemmas.proofs.Lists.{all_map, before_fails, filter_item, contains_cases, contains_none, true_false}

@@ -10,10 +10,10 @@ use Rattle.ltx_model.specs.States.{Base, IsSound, State, serial_through, rows_th
 use Rattle.ltx_model.specs.Histories.{state}
 use Rattle.ltx_model.specs.Frames.{event_of, writes_in}
 use Rattle.ltx_model.specs.Answers.{IsLegalWith}
-use Rattle.ltx_lemmas.specs.Writes.{rows_after_writes, rows_after_last_writes}
+use Rattle.ltx_model.specs.Rows.{rows_after_writes, rows_after_last_writes}
+use Rattle.ltx_model.specs.Logs.{frames_of, events_in, events_of, moves_through}
+use Rattle.ltx_model.specs.Played.{Played, PlayedSlot, PlayedCommit, is_played, commit_there, without_played, put_before, after_events, played_list, committed_numbers, rows_after_played}
 use Rattle.ltx_laws.specs.Drops.{AreLawful, is_leave, without_leaves, logged_agenda}
-use Rattle.ltx_laws.specs.Logs.{frames_of, events_in, events_of, moves_through}
-use Rattle.ltx_laws.specs.Played.{Played, PlayedSlot, PlayedCommit, is_played, commit_there, without_played, put_before, after_events, played_list, committed_numbers, rows_after_played}
 use Rattle.ltx_laws.proofs.DropsHistories.{timely_of, logged_through}
 use Rattle.ltx_laws.proofs.DropsFrames.{frames_through, writes_through}
 

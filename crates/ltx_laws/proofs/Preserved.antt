@@ -5,12 +5,12 @@ use Rattle.ltx_model.specs.declared.commands.Line.{Line}
 use Rattle.ltx_model.specs.declared.replies.Entry.{Entry}
 use Rattle.ltx_model.specs.Tables.{has_table}
 use Rattle.ltx_model.specs.Operations.{Transaction, operations, table_of, touches}
-use Rattle.ltx_model.specs.Agenda.{Member, LiveSlot, Committed, serial, part_before, part_from}
+use Rattle.ltx_model.specs.Agenda.{Member, LiveSlot, Committed, serial, part_before, part_from, has_slot}
 use Rattle.ltx_model.specs.States.{IsShort, Active, transaction_of, Base, IsSound, State, LiveBatch, live_batches}
 use Rattle.ltx_model.specs.Histories.{after, state}
 use Rattle.ltx_model.specs.Answers.{IsLegalWith}
-use Rattle.ltx_lemmas.specs.Pairs.{IsPairwise}
-use Rattle.ltx_laws.specs.Structure.{has_slot, IsKnown}
+use Rattle.ltx_model.specs.Lists.{IsPairwise}
+use Rattle.ltx_laws.specs.Structure.{IsKnown}
 use Rattle.ltx_laws.specs.Guards.{LooksIntoNone, WritesNone, IsGuarded, GuardsAs}
 use Rattle.ltx_laws.specs.Commits.{IsCommitOf}
 use Rattle.ltx_lemmas.proofs.Lists.{any_item, all_map, all_contains}

@@ -13,18 +13,18 @@ use Rattle.ltx_model.specs.Tables.{has_table}
 use Rattle.ltx_model.specs.Lists.{Numbered, numbered}
 use Rattle.ltx_model.specs.Keys.{Cell, same_cell, in_range}
 use Rattle.ltx_model.specs.Operations.{Transaction, operations, table_of, cell_of_write, covers, looks_up, looks_up_key, looks_into_table, writes_at, writes_key, writes_of}
-use Rattle.ltx_model.specs.Agenda.{Member, LiveSlot, Committed, number_of, committed_of, has_number, is_member, serial, part_before, commits_batch, moves_since, Timed}
+use Rattle.ltx_model.specs.Agenda.{Member, LiveSlot, Committed, number_of, committed_of, has_number, is_member, serial, part_before, commits_batch, moves_since, Timed, commits_after, has_slot}
 use Rattle.ltx_model.specs.States.{Declaration, Kind, IsShort, IsPending, IsLive, Step, Active, answered_of, Base, IsSound, State, first_state, LiveBatch, live_batches, is_of, active_of}
 use Rattle.ltx_model.specs.Histories.{after, state, state_from}
-use Rattle.ltx_model.specs.Batches.{batch_operations, commits_after_slot, committed_ahead, writes_what_looks, preserves_what_looks, overtakes, target, Overtakes}
+use Rattle.ltx_model.specs.Batches.{batch_operations, committed_ahead, writes_what_looks, preserves_what_looks, overtakes, target, Overtakes}
 use Rattle.ltx_model.specs.Answers.{answer, staged, unless_in, refusal, commit_live, IsLegalWith}
 use Rattle.ltx_model.proofs.OneMore.{state-append, state-push, legal-parts, legal-first}
-use Rattle.ltx_laws.specs.Structure.{has_slot, IsKnown, IsLiveBatch, IsPendingBatch, StandsAs, Stands, Structure}
+use Rattle.ltx_laws.specs.Structure.{IsKnown, IsLiveBatch, IsPendingBatch, StandsAs, Stands, Structure}
 use Rattle.ltx_laws.specs.Guards.{WritesNone}
 use Rattle.ltx_laws.specs.Priority.{AsksCommit, IsCommittedAtHome, WasLeast, batch_of}
 use Rattle.ltx_lemmas.proofs.Lists.{any_contains, any_item, all_contains, all_map, all_find, all_from, all_mapped, find_contains, find_passes, given_here, before_contains, true_false, none_some}
 use Rattle.ltx_lemmas.proofs.Searches.{numbered_item, is_written_of}
-use Rattle.ltx_lemmas.proofs.Cells.{same_cell_same, same_cell_refl}
+use Rattle.ltx_model.proofs.CellOrder.{same_cell_same, same_cell_refl}
 use Rattle.ltx_lemmas.proofs.Members.{apart_one}
 use Rattle.ltx_laws.proofs.Pairs.{same_number}
 use Rattle.ltx_laws.proofs.Places.{and_left, and_right}
@@ -63,8 +63,8 @@ overtakes_is s i (Committed t) here e =
       tx = t;
       member = given_here committed_of s.agenda (Committed t) t here refl;
       number = refl;
-      later = and_left (commits_after_slot s i.tx.number t.number) (is_member (part_before i.tx.number s.agenda) t.number) ahead;
-      before = and_right (commits_after_slot s i.tx.number t.number) (is_member (part_before i.tx.number s.agenda) t.number) ahead;
+      later = and_left (commits_after s.moves i.tx.number t.number) (is_member (part_before i.tx.number s.agenda) t.number) ahead;
+      before = and_right (commits_after s.moves i.tx.number t.number) (is_member (part_before i.tx.number s.agenda) t.number) ahead;
       key = cell_of_write w;
       writes = sym (is_written_of (cell_of_write w) (operations t)) ∙ any_contains (λ (v : Write). same_cell (cell_of_write v) (cell_of_write w)) (writes_of (operations t)) w found.1 (same_cell_refl (cell_of_write w));
       looks = found.2;
@@ -141,8 +141,8 @@ module _ (base : Base) (s : State) (h : IsGuardedState base s) (session : ℕ) (
       let none : ⊥ = omega arith in none
   free (Committed t) here known e =
       let ahead : committed_ahead s i t ≡ true = and_left (committed_ahead s i t) (writes_what_looks i t) e in
-      let after : commits_after_slot s o.number t.number ≡ true = and_left (commits_after_slot s o.number t.number) (is_member (part_before o.number s.agenda) t.number) ahead in
-      let before : is_member (part_before o.number s.agenda) t.number ≡ true = and_right (commits_after_slot s o.number t.number) (is_member (part_before o.number s.agenda) t.number) ahead in
+      let after : commits_after s.moves o.number t.number ≡ true = and_left (commits_after s.moves o.number t.number) (is_member (part_before o.number s.agenda) t.number) ahead in
+      let before : is_member (part_before o.number s.agenda) t.number ≡ true = and_right (commits_after s.moves o.number t.number) (is_member (part_before o.number s.agenda) t.number) ahead in
       let move = any_item (λ (m : Timed). commits_batch t.number m.move) (moves_since o.number s.moves) after in
       let by_move = all_contains (CommitsFrom o.number s.moves) (moves_since o.number s.moves) move.0 least.commits move.1 t.number move.2 in
       let from : o.number ≤ t.number = by_move.0 in

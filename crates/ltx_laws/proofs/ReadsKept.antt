@@ -6,7 +6,7 @@ use Rattle.std.specs.List.{AllByRecursion, Contains}
 use Rattle.ltx_model.specs.declared.commands.Op.{Op}
 use Rattle.ltx_model.specs.declared.replies.Reply.{Reply}
 use Rattle.ltx_model.specs.declared.rows.StoredRow.{StoredRow}
-use Rattle.ltx_model.specs.Lists.{without_first}
+use Rattle.ltx_model.specs.Lists.{without_first, IsPairwise}
 use Rattle.ltx_model.specs.Keys.{IsRising}
 use Rattle.ltx_model.specs.StoredRows.{cell_of}
 use Rattle.ltx_model.specs.Operations.{Transaction, operations}
@@ -23,7 +23,6 @@ use Rattle.ltx_lemmas.proofs.Rising.{rising_run}
 use Rattle.ltx_lemmas.proofs.Views.{play_push}
 use Rattle.ltx_lemmas.proofs.Runs.{run_sourced, sourced_more}
 use Rattle.ltx_lemmas.proofs.Shorts.{AreSeenThen, seen_then_push}
-use Rattle.ltx_lemmas.specs.Pairs.{IsPairwise}
 use Rattle.ltx_laws.specs.Structure.{IsBefore, IsKnown, IsLiveBatch, StandsAs, Stands, Structure}
 
 -- An open short: each reply is what it saw on the latest rows of that moment, and these came from the base and the committed transactions.
@@ -101,18 +100,18 @@ module _ (base : Base) (s : State) (structure : Structure base s) where
 
   -- an operation is answered
   answered_reads : (rows : List StoredRow) (session : ℕ) (op : Op) (reply : Reply) (o : Active) → active_of s session ≡ Some o → Reads rows s
-      → (IsRead rows (serial s.agenda) o → IsRead rows (serial s.agenda) (with_step (record { op = op; reply = reply; latest = latest s }) o)) → Reads rows (answered s op reply session)
+      → (IsRead rows (serial s.agenda) o → IsRead rows (serial s.agenda) (with_step (record { op = op; reply = reply; order = serial s.agenda; latest = latest s }) o)) → Reads rows (answered s op reply session)
   answered_reads rows session op reply o is r step = record {
     explained = r.explained;
-    read = all_change (IsRead rows (serial s.agenda)) (IsRead rows (serial s.agenda)) (is_of session) (with_step (record { op = op; reply = reply; latest = latest s })) s.active (λ u h. h)
-        (λ u found h. subst (λ v. IsRead rows (serial s.agenda) v → IsRead rows (serial s.agenda) (with_step (record { op = op; reply = reply; latest = latest s }) v)) (some_same (sym is ∙ found)) step h) r.read;
+    read = all_change (IsRead rows (serial s.agenda)) (IsRead rows (serial s.agenda)) (is_of session) (with_step (record { op = op; reply = reply; order = serial s.agenda; latest = latest s })) s.active (λ u h. h)
+        (λ u found h. subst (λ v. IsRead rows (serial s.agenda) v → IsRead rows (serial s.agenda) (with_step (record { op = op; reply = reply; order = serial s.agenda; latest = latest s }) v)) (some_same (sym is ∙ found)) step h) r.read;
   }
 
   pub short_reads : (session : ℕ) (op : Op) (o : Active) (reply : Reply) → IsSound base → active_of s session ≡ Some o → o.kind ≡ IsShort → reply ≡ see o.number (latest s) (operations (transaction_of o)) op
       → Reads base.rows s → Reads base.rows (answered s op reply session)
   short_reads session op o reply sound is kind sees r = answered_reads base.rows session op reply o is r (λ h.
       let ts = serial s.agenda in
-      let new : Step = record { op = op; reply = reply; latest = latest s } in
+      let new : Step = record { op = op; reply = reply; order = serial s.agenda; latest = latest s } in
       let short : IsShortRead base.rows ts o.number o.steps = subst (λ k. IsReadAs base.rows ts k o.number o.steps) kind h in
       let now : latest s ≡ run base.rows ts = ap (λ rows. run rows ts) structure.rows in
       subst (λ k. IsReadAs base.rows ts k o.number (o.steps ++ new ∷ [])) (sym kind) (record {
@@ -125,7 +124,7 @@ module _ (base : Base) (s : State) (structure : Structure base s) where
       → reply ≡ see o.number (run s.base snapshot) (operations (transaction_of o)) op → Reads base.rows s → Reads base.rows (answered s op reply session)
   batch_reads session op o d snapshot reply is kind sees r = answered_reads base.rows session op reply o is r (λ h.
       let ts = serial s.agenda in
-      let new : Step = record { op = op; reply = reply; latest = latest s } in
+      let new : Step = record { op = op; reply = reply; order = serial s.agenda; latest = latest s } in
       let rows : List StoredRow = run base.rows snapshot in
       let ops : List Op = map (λ (b : Step). b.op) o.steps in
       let played : play o.number rows ops ≡ map (λ (b : Step). b.reply) o.steps = subst (λ k. IsReadAs base.rows ts k o.number o.steps) kind h in

@@ -9,9 +9,9 @@ use Rattle.ltx_model.specs.Keys.{Cell, IsRising}
 use Rattle.ltx_model.specs.StoredRows.{cell_of}
 use Rattle.ltx_model.specs.Operations.{Transaction, operations, cell_of_write, writes_of, writes_key, looks_up_key}
 use Rattle.ltx_model.specs.Rows.{play, run}
-use Rattle.ltx_model.specs.Agenda.{Member, Committed, number_of, has_number, serial, part_before, part_from}
+use Rattle.ltx_model.specs.Agenda.{Member, Committed, number_of, has_number, serial, part_before, part_from, commits_after}
 use Rattle.ltx_model.specs.States.{State, LiveBatch}
-use Rattle.ltx_model.specs.Batches.{batch_operations, commits_after_slot, committed_ahead, writes_what_looks, overtakes, target, last_writer, last_writer_from, is_from_some, cells_written_by, first_late}
+use Rattle.ltx_model.specs.Batches.{batch_operations, committed_ahead, writes_what_looks, overtakes, target, last_writer, last_writer_from, is_from_some, cells_written_by, first_late}
 use Rattle.ltx_lemmas.specs.Places.{is_before, is_at_or_after, AreApart}
 use Rattle.ltx_lemmas.proofs.Lists.{none_some, some_same, all_from, all_contains, any_not, any_not_all, any_append, any_contains, filter_append, filter_item, contains_here, contains_front, contains_back, find_none, find_splits, before_fails, before_past, parts_join, before_contains}
 use Rattle.ltx_lemmas.proofs.Members.{same_number, before_asym, apart_tail}
@@ -30,7 +30,7 @@ some_mapped f (Some x) y e = (x, refl, some_same e)
 
 -- the members of the snapshot, by what committed after the slot
 abbrev pub in_snapshot : State → ℕ → Transaction → Bool
-in_snapshot s n t = not (commits_after_slot s n t.number)
+in_snapshot s n t = not (commits_after s.moves n t.number)
 
 -- of members with numbers of their own, those before one
 pub front_fails : (front : List Member) (m : Member) (rest : List Member) → AreApart (front ++ m ∷ rest) → AllByRecursion (λ x. has_number (number_of m) x ≡ false) front
@@ -52,7 +52,7 @@ module _ (s : State) (i : LiveBatch) where
       → (q : Cell) → looks_up_key (batch_operations i) q ≡ true → writes_key (operations t) q ≡ false
   unwritten_ahead t free out before q looks = by_test (writes_key (operations t) q) refl where
     ahead : committed_ahead s i t ≡ true
-    ahead = ap (λ b. b && is_before s.agenda t.number i.tx.number) (not-false (commits_after_slot s i.tx.number t.number) out) ∙ before
+    ahead = ap (λ b. b && is_before s.agenda t.number i.tx.number) (not-false (commits_after s.moves i.tx.number t.number) out) ∙ before
 
     writes_none : writes_what_looks i t ≡ false
     writes_none = sym (ap (λ b. b && writes_what_looks i t) ahead) ∙ free

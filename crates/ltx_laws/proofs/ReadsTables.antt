@@ -14,7 +14,7 @@ use Rattle.ltx_model.specs.States.{Declaration, Step}
 use Rattle.ltx_model.specs.Answers.{unless_in, refusal}
 use Rattle.ltx_lemmas.proofs.Lists.{true_false, none_some, all_contains, any_item, any_contains, any_map}
 use Rattle.ltx_lemmas.proofs.Members.{same_number}
-use Rattle.ltx_lemmas.proofs.Cells.{same_cell_same, same_cell_refl}
+use Rattle.ltx_model.proofs.CellOrder.{same_cell_same, same_cell_refl}
 
 -- one operation that looks a key up looks into its table
 looks_into_one : (q : Cell) (earlier : List Op) (op : Op) → looks_up q earlier op ≡ true → looks_into q.table earlier op ≡ true

@@ -11,7 +11,7 @@ use Rattle.ltx_model.specs.Agenda.{serial, part_from}
 use Rattle.ltx_model.specs.States.{State, LiveBatch}
 use Rattle.ltx_model.specs.Batches.{batch_operations, Witness, late_or, last_writer, is_from_some, is_late_key, late_witness, late_of, first_late, cells_written_by, contradicted, contradicted_write, contradicts_of, first_contradicted}
 use Rattle.ltx_lemmas.proofs.Lists.{true_false, none_some, all_contains, find_passes, any_item, contains_here, contains_later}
-use Rattle.ltx_lemmas.proofs.Cells.{same_cell_same}
+use Rattle.ltx_model.proofs.CellOrder.{same_cell_same}
 use Rattle.ltx_lemmas.proofs.Searches.{first_none, is_in, none_passes}
 
 -- no refusal: neither a late witness nor a contradicted one

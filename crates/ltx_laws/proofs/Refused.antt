@@ -19,7 +19,8 @@ use Rattle.ltx_model.specs.Frames.{sealed, body_length}
 use Rattle.ltx_model.specs.Histories.{state}
 use Rattle.ltx_model.specs.Shorts.{Held, held_table, holder, Change, first_change}
 use Rattle.ltx_model.specs.Batches.{Witness, Refusal, ByLate, ByContradicts, late_or, first_late, first_contradicted, first_witness, target, waits, IsTarget, IsFirstLate, IsLate, IsFirstContradicted, Waits}
-use Rattle.ltx_model.specs.Answers.{answer, staged, IsLegalWith, verb_reply, begin_short, short_reply, begin_long, long_reply, operation, operation_in, operation_of_short, operation_of_batch, refusal, unless_in, counted, is_full, commit, commit_in, commit_short, checked, commit_live, commit_at, abort, advance, flush, flush_within, last_number, last_epoch, longest_log}
+use Rattle.ltx_model.specs.Answers.{answer, staged, IsLegalWith, verb_reply, begin_short, short_reply, begin_long, long_reply, operation, operation_in, operation_of_short, operation_of_batch, refusal, unless_in, counted, is_full, commit, commit_in, commit_short, checked, commit_live, commit_at, abort, advance, flush, flush_within}
+use Rattle.ltx_model.specs.Limits.{last_number, last_epoch, longest_log}
 use Rattle.ltx_model.specs.Explained.{effect_of, Answers}
 use Rattle.ltx_laws.specs.Structure.{Structure}
 use Rattle.ltx_laws.specs.Priority.{batch_of}

@@ -44,7 +44,7 @@ module _ (s : State) (h : AreOfEpoch s) where
       all_map Here (λ o. IsOfEpoch s.epoch (s.moves ++ m ∷ []) o.kind o.number) (λ o. more m o.kind o.number) (without_first (is_of session) s.active) (rest session)
 
   after_answer : (session : ℕ) (op : Op) (reply : Reply) → AreOfEpoch (answered s op reply session)
-  after_answer session op reply = all_change Here Here (is_of session) (with_step (record { op = op; reply = reply; latest = latest s })) s.active (λ o e. e) (λ o is e. e) h
+  after_answer session op reply = all_change Here Here (is_of session) (with_step (record { op = op; reply = reply; order = serial s.agenda; latest = latest s })) s.active (λ o e. e) (λ o is e. e) h
 
   after_end : (session : ℕ) (o : Active) (k : Kind) → AreOfEpoch (left (closed s session) k o.number)
   after_end session o IsShort = rest session

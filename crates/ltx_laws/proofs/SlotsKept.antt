@@ -5,12 +5,12 @@ use Rattle.std.proofs.lemmas.List.Sorted.{Contains-permutation}
 use Rattle.ltx_model.specs.declared.commands.Line.{Line}
 use Rattle.ltx_model.specs.declared.replies.Entry.{Entry}
 use Rattle.ltx_model.specs.Operations.{Transaction}
-use Rattle.ltx_model.specs.Agenda.{Committed, Move, CommitShort, CommitHome, CommitBefore, Leave, Timed, is_slot, commit_of, commits_of, serial}
+use Rattle.ltx_model.specs.Agenda.{Committed, Move, CommitShort, CommitHome, CommitBefore, Leave, Timed, is_slot, commit_of, commits_of, serial, has_slot}
 use Rattle.ltx_model.specs.States.{Declaration, Kind, IsShort, IsPending, IsLive, Active, transaction_of, Base, IsSound, State, first_state}
 use Rattle.ltx_model.specs.Histories.{closed, moved, left, ended, in_epoch, advanced, durable_if, made_durable, after, state, state_from}
 use Rattle.ltx_model.specs.Answers.{IsLegalFrom, IsLegalWith}
 use Rattle.ltx_model.proofs.OneMore.{state-append, legal-parts, legal-first}
-use Rattle.ltx_laws.specs.Structure.{has_slot, IsKnown, IsOpenShort, Structure}
+use Rattle.ltx_laws.specs.Structure.{IsKnown, IsOpenShort, Structure}
 use Rattle.ltx_laws.specs.Commits.{IsCommitOf}
 use Rattle.ltx_lemmas.proofs.Lists.{any_append, all_contains, contains_here, contains_front, contains_back, given_here}
 use Rattle.ltx_laws.proofs.Agendas.{or_false, any_push_not}

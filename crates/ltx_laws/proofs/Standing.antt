@@ -1,12 +1,11 @@
 -- Where the other transactions stand after a move of one: each fact of the structure, kept over plain lists.
 use Rattle.std.proofs.Common.{◌≡◌, ◌≢◌, ℕ, ◌<◌, ◌≤◌, Bool, true, false, cond, not, ◌||◌, ◌==◌, List, [], ◌∷◌, ◌++◌, filter, Some, None, refl, sym, ap, ◌∙◌, ne_eqb, arith}
 use Rattle.std.specs.List.{find, list_any, AllByRecursion}
-use Rattle.ltx_model.specs.Lists.{without_first}
+use Rattle.ltx_model.specs.Lists.{without_first, IsPairwise}
 use Rattle.ltx_model.specs.Operations.{Transaction}
-use Rattle.ltx_model.specs.Agenda.{Member, LiveSlot, Committed, number_of, is_member, serial, agenda_from, part_before, Timed, commit_of, commits_of, moves_until}
+use Rattle.ltx_model.specs.Agenda.{Member, LiveSlot, Committed, number_of, is_member, serial, agenda_from, part_before, Timed, commit_of, commits_of, moves_until, has_slot, commits_after}
 use Rattle.ltx_model.specs.States.{Kind, IsShort, IsPending, IsLive, Step, Active, Base, is_of}
-use Rattle.ltx_lemmas.specs.Pairs.{IsPairwise}
-use Rattle.ltx_laws.specs.Structure.{has_slot, is_forwarded, commits_after, if_live, is_live_as, AreOpen, IsKnown, IsBefore, StandsAs, Stands}
+use Rattle.ltx_laws.specs.Structure.{is_forwarded, if_live, is_live_as, AreOpen, IsKnown, IsBefore, StandsAs, Stands}
 use Rattle.ltx_lemmas.proofs.Lists.{all_without, all_find, given_append, some_same}
 use Rattle.ltx_laws.proofs.Pairs.{pairs_without, others_apart}
 use Rattle.ltx_laws.proofs.Agendas.{IsOther}

@@ -1,6 +1,6 @@
 -- The structure after a transaction commits or ends: one lemma for each move.
 use Rattle.std.proofs.Common.{◌||◌}
-use Rattle.ltx_model.specs.Agenda.{without_member, insert_before, part_from, CommitBefore, Leave}
+use Rattle.ltx_model.specs.Agenda.{without_member, insert_before, part_from, CommitBefore, Leave, has_slot, commits_after}
 use Rattle.ltx_lemmas.proofs.Lists.{all_filter}
 use Rattle.ltx_laws.proofs.Pairs.{same_number, all_from_first, all_insert, pairs_filter, pairs_insert}
 use Rattle.ltx_laws.proofs.Places.{any_before, in_front, before_without, before_apart}
@@ -8,13 +8,12 @@ use Rattle.ltx_laws.proofs.Agendas.{or_true, member_without, member_insert, gone
 use Rattle.ltx_laws.proofs.Snapshots.{passing_without, passing_before}
 use Rattle.std.proofs.Common.{◌≡◌, ◌≢◌, ℕ, ◌<◌, ◌≤◌, Bool, true, false, cond, not, ◌||◌, ◌==◌, List, [], ◌∷◌, ◌++◌, map, filter, Some, refl, sym, ap, ◌∙◌, subst, subst₂, ne_eqb, eq-eqb, IsPermutation}
 use Rattle.std.specs.List.{AllByRecursion}
-use Rattle.ltx_model.specs.Lists.{without_first}
+use Rattle.ltx_model.specs.Lists.{without_first, IsPairwise}
 use Rattle.ltx_model.specs.Operations.{Transaction}
 use Rattle.ltx_model.specs.Agenda.{Member, Committed, number_of, has_number, is_member, commit_at_slot, agenda_after, serial, agenda_from, part_before, CommitShort, CommitHome, Timed, is_slot, commits_of, commits_batch}
 use Rattle.ltx_model.specs.States.{Active, transaction_of, Base, State, is_of, active_of}
 use Rattle.ltx_model.specs.Histories.{closed, moved}
-use Rattle.ltx_lemmas.specs.Pairs.{IsPairwise}
-use Rattle.ltx_laws.specs.Structure.{has_slot, forwards, is_forwarded, commits_after, AreSlots, IsKnown, IsBefore, Stands, Structure}
+use Rattle.ltx_laws.specs.Structure.{forwards, is_forwarded, AreSlots, IsKnown, IsBefore, Stands, Structure}
 use Rattle.ltx_lemmas.proofs.Lists.{all_map, all_push, all_without, all_find, all_mapped, filter_same, true_false}
 use Rattle.ltx_laws.proofs.Pairs.{all_of, all_both, pairs_all, pairs_push, pairs_map}
 use Rattle.ltx_laws.proofs.Agendas.{IsOther, any_push, any_push_not, any_kept, until_more, agenda_more, commits_after_more, commits_after_now, number_home, member_home, member_push, not_member, serial_short, inserted_at_end, inserted_permutes, home_inserted}

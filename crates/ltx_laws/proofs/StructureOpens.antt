@@ -5,11 +5,11 @@ use Rattle.ltx_model.specs.declared.commands.Op.{Op}
 use Rattle.ltx_model.specs.declared.replies.Reply.{Reply}
 use Rattle.ltx_model.specs.Lists.{change_first}
 use Rattle.ltx_model.specs.Operations.{Transaction}
-use Rattle.ltx_model.specs.Agenda.{Member, LiveSlot, Committed, number_of, is_member}
+use Rattle.ltx_model.specs.Agenda.{Member, LiveSlot, Committed, number_of, is_member, serial, has_slot}
 use Rattle.ltx_model.specs.States.{Declaration, Kind, IsShort, IsPending, IsLive, Step, Active, Base, State, is_of, active_of, latest}
 use Rattle.ltx_model.specs.Histories.{begun, with_step, answered, durable_if, made_durable}
 use Rattle.ltx_model.specs.Answers.{refusal}
-use Rattle.ltx_laws.specs.Structure.{has_slot, is_live_as, IsKnown, StandsAs, Stands, Structure}
+use Rattle.ltx_laws.specs.Structure.{is_live_as, IsKnown, StandsAs, Stands, Structure}
 use Rattle.ltx_lemmas.proofs.Lists.{all_map, all_push, all_change, find_none, without_nothing, some_same, true_false}
 use Rattle.ltx_laws.proofs.Pairs.{all_both, pairs_push, pairs_change}
 use Rattle.ltx_laws.proofs.Agendas.{any_kept, member_not}
@@ -87,9 +87,9 @@ module _ (base : Base) (s : State) (inv : Structure base s) where
 
   -- an operation is answered, which a short or a live batch inside its declarations asked
   pub answered_structure : (op : Op) (reply : Reply) (session : ℕ) (o : Active) → active_of s session ≡ Some o
-      → (Stands s.agenda s.moves o → Stands s.agenda s.moves (with_step (record { op = op; reply = reply; latest = latest s }) o)) → Structure base (answered s op reply session)
+      → (Stands s.agenda s.moves o → Stands s.agenda s.moves (with_step (record { op = op; reply = reply; order = serial s.agenda; latest = latest s }) o)) → Structure base (answered s op reply session)
   answered_structure op reply session o is stands =
-      let step : Step = record { op = op; reply = reply; latest = latest s } in
+      let step : Step = record { op = op; reply = reply; order = serial s.agenda; latest = latest s } in
       let f : Active → Active = with_step step in
       let changed : (P : ℕ → Type 0) → AllByRecursion (λ (u : Active). P u.number) s.active → AllByRecursion (λ (u : Active). P u.number) (change_first (is_of session) f s.active)
       = λ P all. all_change (λ (u : Active). P u.number) (λ (u : Active). P u.number) (is_of session) f s.active (λ u p. p) (λ u e p. p) all in
@@ -120,11 +120,11 @@ module _ (base : Base) (s : State) (inv : Structure base s) where
 
   pub answered_short_structure : (op : Op) (reply : Reply) (session : ℕ) (o : Active) → active_of s session ≡ Some o → o.kind ≡ IsShort → Structure base (answered s op reply session)
   answered_short_structure op reply session o is kind = answered_structure op reply session o is
-      (subst (λ k. StandsAs s.agenda s.moves k o.number o.steps → StandsAs s.agenda s.moves k o.number (o.steps ++ record { op = op; reply = reply; latest = latest s } ∷ [])) (sym kind) (λ h. h))
+      (subst (λ k. StandsAs s.agenda s.moves k o.number o.steps → StandsAs s.agenda s.moves k o.number (o.steps ++ record { op = op; reply = reply; order = serial s.agenda; latest = latest s } ∷ [])) (sym kind) (λ h. h))
 
   pub answered_batch_structure : (op : Op) (reply : Reply) (session : ℕ) (o : Active) (d : Declaration) (snapshot : List Transaction) → active_of s session ≡ Some o → o.kind ≡ IsLive d snapshot → refusal d op ≡ None → Structure base (answered s op reply session)
   answered_batch_structure op reply session o d snapshot is kind inside =
-      let step : Step = record { op = op; reply = reply; latest = latest s } in
+      let step : Step = record { op = op; reply = reply; order = serial s.agenda; latest = latest s } in
       answered_structure op reply session o is
       (subst (λ k. StandsAs s.agenda s.moves k o.number o.steps → StandsAs s.agenda s.moves k o.number (o.steps ++ step ∷ [])) (sym kind)
       (λ h. record { member = h.member; slotted = h.slotted; taken = h.taken; now = h.now; inside = all_push (λ (b : Step). refusal d b.op ≡ None) o.steps step h.inside inside }))

@@ -2,12 +2,12 @@
 use Rattle.std.proofs.Common.{◌≡◌, ◌≢◌, ℕ, ◌<◌, ◌≤◌, Bool, true, false, not, ◌||◌, ◌==◌, List, [], ◌∷◌, ◌++◌, map, filter, None, refl, sym, ap, ◌∙◌, subst, subst₂, ne_eqb, eq-eqb, append_assoc, append-nil, arith, IsPermutation}
 use Rattle.std.specs.List.{list_any, AllByRecursion}
 use Rattle.ltx_model.specs.Operations.{Transaction}
-use Rattle.ltx_model.specs.Agenda.{Member, LiveSlot, Committed, number_of, has_number, is_member, agenda_after, serial, agenda_from, part_before, Slot, Timed, is_slot, commits_batch}
+use Rattle.ltx_model.specs.Agenda.{Member, LiveSlot, Committed, number_of, has_number, is_member, agenda_after, serial, agenda_from, part_before, Slot, Timed, is_slot, commits_batch, has_slot, commits_after}
 use Rattle.ltx_model.specs.States.{Declaration, Kind, IsShort, IsPending, IsLive, Active, Base, State}
 use Rattle.ltx_model.specs.Histories.{with_active, moved, with_kind, made_live, slot_after, slots_after, in_epoch, advanced}
 use Rattle.ltx_model.specs.Answers.{refusal}
-use Rattle.ltx_lemmas.specs.Pairs.{IsPairwise}
-use Rattle.ltx_laws.specs.Structure.{has_slot, forwards, is_forwarded, commits_after, is_live_as, if_live, IsKnown, IsBefore, IsPendingBatch, StandsAs, Stands, Structure}
+use Rattle.ltx_model.specs.Lists.{IsPairwise}
+use Rattle.ltx_laws.specs.Structure.{forwards, is_forwarded, is_live_as, if_live, IsKnown, IsBefore, IsPendingBatch, StandsAs, Stands, Structure}
 use Rattle.ltx_lemmas.proofs.Lists.{all_map, all_push, all_append, filter_same, filter_all, before_past, true_false}
 use Rattle.ltx_lemmas.proofs.Pairwise.{pairs_behind}
 use Rattle.ltx_laws.proofs.Pairs.{same_number, all_of, all_both, all_replace, all_middle, pairs_push, pairs_weaken, pairs_replace}

@@ -3,10 +3,10 @@ use Rattle.std.proofs.Common.{◌≡◌, ◌≢◌, ℕ, ◌<◌, true, false, �
 use Rattle.std.specs.List.{find, list_any}
 use Rattle.ltx_model.specs.Tables.{has_table}
 use Rattle.ltx_model.specs.Operations.{table_of, looks_into_table}
-use Rattle.ltx_model.specs.Agenda.{Member, LiveSlot, Committed, number_of, has_number, is_member, part_before}
+use Rattle.ltx_model.specs.Agenda.{Member, LiveSlot, Committed, number_of, has_number, is_member, part_before, commits_after, has_slot}
 use Rattle.ltx_model.specs.States.{Base, State, LiveBatch, live_batches}
-use Rattle.ltx_model.specs.Batches.{batch_operations, commits_after_slot, committed_ahead, writes_what_looks, preserves_what_looks, overtakes, target}
-use Rattle.ltx_laws.specs.Structure.{has_slot, is_forwarded, IsKnown, IsBefore, Structure}
+use Rattle.ltx_model.specs.Batches.{batch_operations, committed_ahead, writes_what_looks, preserves_what_looks, overtakes, target}
+use Rattle.ltx_laws.specs.Structure.{is_forwarded, IsKnown, IsBefore, Structure}
 use Rattle.ltx_lemmas.proofs.Lists.{any_contains, any_item, all_find, find_contains, find_passes, some_same, none_some, true_false}
 use Rattle.ltx_laws.proofs.Pairs.{same_number}
 use Rattle.ltx_laws.proofs.Places.{and_left, and_right, stands_first}
@@ -40,7 +40,7 @@ overtaken_smaller s i j e =
 module _ (base : Base) (s : State) (inv : Structure base s) (i : LiveBatch) (slotted : has_slot s.moves i.tx.number ≡ true) (member : is_member s.agenda i.tx.number ≡ true) (unforwarded : is_forwarded s.moves i.tx.number ≡ false) where
   -- whoever it overtakes stands before it
   pub overtaken_ahead : (m : Member) → Contains s.agenda m → IsKnown s.active s.moves m → overtakes s i m ≡ true → is_member (part_before i.tx.number s.agenda) (number_of m) ≡ true
-  overtaken_ahead (Committed t) here known e = and_right (commits_after_slot s i.tx.number t.number) (is_member (part_before i.tx.number s.agenda) t.number) (and_left (committed_ahead s i t) (writes_what_looks i t) e)
+  overtaken_ahead (Committed t) here known e = and_right (commits_after s.moves i.tx.number t.number) (is_member (part_before i.tx.number s.agenda) t.number) (and_left (committed_ahead s i t) (writes_what_looks i t) e)
   overtaken_ahead (LiveSlot j) here known e =
       let less : j < i.tx.number = overtaken_smaller s i j e in
       let there : is_member s.agenda j ≡ true = any_contains (has_number j) s.agenda (LiveSlot j) here (eq-eqb j j refl) in

@@ -45,7 +45,7 @@ opens_change session step (x ∷ xs) = by_test (is_of session x) (opens_change s
   by_test true rest = ap (λ y. y ∷ opens_of xs) (open_step step x)
   by_test false rest = ap (λ l. open_of x ∷ l) rest
 
-opens_find : (session : ℕ) (xs : List Active) → find (is_session session) (opens_of xs) ≡ option_map open_of (find (is_of session) xs)
+pub opens_find : (session : ℕ) (xs : List Active) → find (is_session session) (opens_of xs) ≡ option_map open_of (find (is_of session) xs)
 opens_find session [] = refl
 opens_find session (x ∷ xs) = by_test (is_of session x) (opens_find session xs) where
   by_test : (b : Bool) → find (is_session session) (opens_of xs) ≡ option_map open_of (find (is_of session) xs) → cond b (Some (open_of x)) (find (is_session session) (opens_of xs)) ≡ option_map open_of (cond b (Some x) (find (is_of session) xs))
@@ -56,7 +56,7 @@ opens_live : (snapshot : List Transaction) (xs : List Active) → opens_of (map 
 opens_live snapshot [] = refl
 opens_live snapshot (x ∷ xs) = ap (λ l. open_of x ∷ l) (opens_live snapshot xs)
 
-slots_commits : (epoch : ℕ) (s : State) (os : List Active) → commits_of (slots_after epoch s os).moves ≡ commits_of s.moves
+pub slots_commits : (epoch : ℕ) (s : State) (os : List Active) → commits_of (slots_after epoch s os).moves ≡ commits_of s.moves
 slots_commits epoch s [] = refl
 slots_commits epoch s (o ∷ os) = slots_commits epoch (slot_after epoch s o.kind o.number) os ∙ by_kind o.kind where
   by_kind : (k : Kind) → commits_of (slot_after epoch s k o.number).moves ≡ commits_of s.moves
@@ -97,7 +97,7 @@ module _ (s : State) where
 
   answered_told : (op : Op) (reply : Reply) (session : ℕ) → effect_of reply ≡ Answers → Tells s (asks session (verbs.Do op)) reply (answered s op reply session)
   answered_told op reply session e = record {
-    opens = opens_change session (record { op = op; reply = reply; latest = latest s }) s.active ∙ rw e refl;
+    opens = opens_change session (record { op = op; reply = reply; order = serial s.agenda; latest = latest s }) s.active ∙ rw e refl;
     commits = sym (append-nil (commits_of s.moves)) ∙ rw e refl;
   }
 

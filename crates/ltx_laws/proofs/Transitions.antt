@@ -22,7 +22,8 @@ use Rattle.ltx_model.specs.Frames.{sealed, body_length}
 use Rattle.ltx_model.specs.Histories.{begun, answered, closed, moved, committed, committed_before, ended, advanced, made_durable, reply_changes, after, state_from}
 use Rattle.ltx_model.specs.Shorts.{Held, held_table, holder, Change, first_change}
 use Rattle.ltx_model.specs.Batches.{Refusal, ByLate, ByContradicts, target, first_witness, waits, elder_reader}
-use Rattle.ltx_model.specs.Answers.{answer, staged, IsLegalFrom, verb_reply, command_reply, begin_short, short_reply, begin_long, long_reply, operation, operation_in, operation_of_short, operation_of_batch, refusal, unless_in, counted, is_full, commit, commit_in, commit_short, commit_live, commit_at, refused_at, abort, advance, flush, flush_within, last_number, last_epoch, longest_log}
+use Rattle.ltx_model.specs.Answers.{answer, staged, IsLegalFrom, verb_reply, command_reply, begin_short, short_reply, begin_long, long_reply, operation, operation_in, operation_of_short, operation_of_batch, refusal, unless_in, counted, is_full, commit, commit_in, commit_short, commit_live, commit_at, refused_at, abort, advance, flush, flush_within}
+use Rattle.ltx_model.specs.Limits.{last_number, last_epoch, longest_log}
 use Rattle.ltx_model.specs.Explained.{Answers, Ends, Leaves, effect_of}
 use Rattle.ltx_model.proofs.OneMore.{after-is}
 

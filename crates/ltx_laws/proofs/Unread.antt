@@ -3,10 +3,10 @@
 use Rattle.std.proofs.Common.{◌≡◌, ◌≢◌, ◌⊎◌, inl, inr, ℕ, ◌<◌, Bool, true, false, cond, ◌||◌, ◌==◌, List, [], ◌∷◌, Some, refl, sym, subst, Contains}
 use Rattle.std.specs.List.{AllByRecursion}
 use Rattle.ltx_model.specs.Operations.{Transaction}
-use Rattle.ltx_model.specs.Agenda.{Member, LiveSlot, Committed, committed_of, is_member, serial, part_before, part_from, Timed}
+use Rattle.ltx_model.specs.Agenda.{Member, LiveSlot, Committed, committed_of, is_member, serial, part_before, part_from, Timed, has_slot}
 use Rattle.ltx_model.specs.States.{Declaration, IsLive, Active, Base, State, is_of, active_of}
-use Rattle.ltx_lemmas.specs.Pairs.{IsPairwise}
-use Rattle.ltx_laws.specs.Structure.{has_slot, IsKnown, Structure}
+use Rattle.ltx_model.specs.Lists.{IsPairwise}
+use Rattle.ltx_laws.specs.Structure.{IsKnown, Structure}
 use Rattle.ltx_laws.specs.Guards.{LooksIntoNone, WritesNone, IsGuarded, GuardsAs}
 use Rattle.ltx_lemmas.proofs.Lists.{all_map, all_contains, all_find, given_item, some_same, none_some, contains_cases, contains_none}
 use Rattle.ltx_laws.proofs.Pairs.{same_number}

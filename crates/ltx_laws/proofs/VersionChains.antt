@@ -2,18 +2,17 @@
 use Rattle.std.proofs.Common.{◌≡◌, ◌≢◌, ◌⊎◌, inl, inr, ℕ, Bool, true, false, cond, not, ◌&&◌, List, [], ◌∷◌, ◌++◌, map, Contains, Option, Some, None, refl, sym, ap, ◌∙◌, subst, append_assoc, append-nil}
 use Rattle.std.proofs.lemmas.Bool.{both_ways}
 use Rattle.std.specs.List.{AllByRecursion}
-use Rattle.ltx_model.specs.Lists.{or_else}
+use Rattle.ltx_model.specs.Lists.{or_else, IsPairwise}
 use Rattle.ltx_model.specs.Keys.{Cell}
 use Rattle.ltx_model.specs.Operations.{Transaction, operations, writes_key}
 use Rattle.ltx_model.specs.Agenda.{Member, LiveSlot, Committed, is_member, without_member, insert_before, commit_at_slot, agenda_after, agenda_from, part_before, part_from, serial, Move, Slot, CommitShort, CommitHome, CommitBefore, Leave, Timed, commit_of}
+use Rattle.ltx_model.specs.Versions.{has_later, install, install_if, chain_from, chain_of, newest}
 use Rattle.ltx_lemmas.specs.Places.{is_before, AreApart}
 use Rattle.ltx_lemmas.proofs.Lists.{none_some, some_same, all_from, all_map, all_push, all_contains, any_item, any_not, contains_here, contains_later, contains_cases, contains_none, contains_front, contains_back, contains_parts}
 use Rattle.ltx_lemmas.proofs.Members.{before_push_old, before_without, before_insert_others, before_home, before_total, before_trans, before_self, before_member}
 use Rattle.ltx_lemmas.proofs.Serials.{serial_member, serial_is_member, serial_slot, serial_push, serial_parts, serial_home, serial_before, serial_without, slot_not_committed}
-use Rattle.ltx_lemmas.specs.Pairs.{IsPairwise}
 use Rattle.ltx_laws.specs.Orders.{IsPrefix}
 use Rattle.ltx_laws.specs.Drops.{IsLawful, AreLawful}
-use Rattle.ltx_laws.specs.Versions.{has_later, install, install_if, chain_from, chain_of, newest}
 use Rattle.ltx_laws.proofs.Pairs.{pairs_push, pairs_weaken}
 use Rattle.ltx_laws.proofs.Agendas.{agenda_more}
 use Rattle.ltx_laws.proofs.DropsLists.{logged_all, lawful_front}

@@ -5,7 +5,7 @@ use Rattle.std.specs.List.{list_any, cons_option, AllByRecursion}
 use Rattle.ltx_model.specs.declared.commands.Line.{Line}
 use Rattle.ltx_model.specs.declared.replies.Entry.{Entry}
 use Rattle.ltx_model.specs.declared.rows.StoredRow.{StoredRow}
-use Rattle.ltx_model.specs.Lists.{from_first}
+use Rattle.ltx_model.specs.Lists.{from_first, IsPairwise}
 use Rattle.ltx_model.specs.Keys.{Cell}
 use Rattle.ltx_model.specs.StoredRows.{row_at}
 use Rattle.ltx_model.specs.Operations.{Transaction, operations, writes_key}
@@ -14,16 +14,19 @@ use Rattle.ltx_model.specs.Agenda.{Member, LiveSlot, Committed, is_member, seria
 use Rattle.ltx_model.specs.States.{Active, Base, IsSound, State, LiveBatch, live_batches, latest, transaction_of, as_live}
 use Rattle.ltx_model.specs.Histories.{state}
 use Rattle.ltx_model.specs.Answers.{IsLegalWith}
+use Rattle.ltx_model.specs.Versions.{has_later, install, install_if, chain_from, chain_of, newest, version_row}
 use Rattle.ltx_lemmas.specs.Places.{is_before, AreApart}
 use Rattle.ltx_lemmas.proofs.Lists.{all_contains, any_not_all, contains_here, contains_cases, contains_none, contains_back, contains_parts, parts_join, given_item}
 use Rattle.ltx_lemmas.proofs.Members.{apart_one, apart_tail, before_asym}
 use Rattle.ltx_lemmas.proofs.Serials.{serial_member, serial_is_member}
+use Rattle.std.specs.Prelude.{option_map}
+use Rattle.ltx_model.specs.Batches.{last_writer_from, last_writer}
+use Rattle.ltx_lemmas.proofs.Searches.{last_writer_silent}
+use Rattle.ltx_laws.proofs.LastWriters.{found_by}
 use Rattle.ltx_lemmas.proofs.Runs.{last_to_write, last_writes, silent_run}
-use Rattle.ltx_lemmas.specs.Pairs.{IsPairwise}
 use Rattle.ltx_laws.specs.Structure.{StandsAs, Stands}
-use Rattle.ltx_laws.specs.Orders.{IsPrefix}
+use Rattle.ltx_laws.specs.Orders.{IsPrefix, IsSublist}
 use Rattle.ltx_laws.specs.Drops.{AreLawful}
-use Rattle.ltx_laws.specs.Versions.{has_later, install, install_if, chain_from, chain_of, newest, version_row, IsSublist}
 use Rattle.ltx_laws.proofs.Structures.{structure_of}
 use Rattle.ltx_laws.proofs.Floors.{open_live}
 use Rattle.ltx_laws.proofs.DropsHistories.{timely_of}
@@ -56,11 +59,21 @@ front_before (Committed u ∷ ms) (x ∷ front) t back apart e v c =
       by_place (inl same) heads later = ap (λ b. b || is_before ms v.number t.number) (eq-eqb u.number v.number (ap (λ (y : Transaction). y.number) (heads ∙ same)))
       by_place (inr d) heads later = or_right (u.number == v.number) (is_before ms v.number t.number) (later d)
 
--- The newest version is the last writer of the order.
-newest_row : (q : Cell) (rows : List StoredRow) (agenda : List Member) (chain : List Transaction) → AreApart agenda → AreVersions q agenda chain → row_at (run rows (serial agenda)) q ≡ version_row rows q (newest chain)
-newest_row q rows agenda chain apart h = by_any (list_any (λ t. writes_key (operations t) q) (serial agenda)) refl where
-  by_none : (o : Option Transaction) → newest chain ≡ o → AllByRecursion (λ t. writes_key (operations t) q ≡ false) (serial agenda) → row_at rows q ≡ version_row rows q o
-  by_none None is silent = refl
+-- The newest version is the last writer of the order: the order is silent on the key and there is none, or it is the last one there that writes it.
+record IsNewestWriter (q : Cell) (ts : List Transaction) (chain : List Transaction) : Type 0 where
+  front : List Transaction
+  tx : Transaction
+  back : List Transaction
+  parts : ts ≡ front ++ tx ∷ back
+  writes : writes_key (operations tx) q ≡ true
+  silent : AllByRecursion (λ t. writes_key (operations t) q ≡ false) back
+  newest_is : newest chain ≡ Some tx
+
+newest_cases : (q : Cell) (agenda : List Member) (chain : List Transaction) → AreApart agenda → AreVersions q agenda chain
+    → ((newest chain ≡ None) × AllByRecursion (λ t. writes_key (operations t) q ≡ false) (serial agenda)) ⊎ IsNewestWriter q (serial agenda) chain
+newest_cases q agenda chain apart h = by_any (list_any (λ t. writes_key (operations t) q) (serial agenda)) refl where
+  by_none : (o : Option Transaction) → newest chain ≡ o → AllByRecursion (λ t. writes_key (operations t) q ≡ false) (serial agenda) → newest chain ≡ None
+  by_none None is silent = is
   by_none (Some v) is silent =
       let here = newest_in chain v is in
       let member = all_contains (λ u. Contains (serial agenda) u) chain v h.member here in
@@ -84,14 +97,28 @@ newest_row q rows agenda chain apart h = by_any (list_any (λ t. writes_key (ope
           by_item (inl e) = e
           by_item (inr d) = absurd (let no : ⊥ = both_ways (writes_key (operations v) q) (all_contains (λ u. writes_key (operations u) q ≡ false) back v silent d) w in no)
 
-  by_any : (b : Bool) → list_any (λ t. writes_key (operations t) q) (serial agenda) ≡ b → row_at (run rows (serial agenda)) q ≡ version_row rows q (newest chain)
-  by_any false none = let silent = any_not_all (λ t. writes_key (operations t) q) (serial agenda) none in silent_run q rows (serial agenda) silent ∙ by_none (newest chain) refl silent
+  by_any : (b : Bool) → list_any (λ t. writes_key (operations t) q) (serial agenda) ≡ b
+      → ((newest chain ≡ None) × AllByRecursion (λ t. writes_key (operations t) q ≡ false) (serial agenda)) ⊎ IsNewestWriter q (serial agenda) chain
+  by_any false none = let silent = any_not_all (λ t. writes_key (operations t) q) (serial agenda) none in inl (by_none (newest chain) refl silent, silent)
   by_any true some =
       let (front, t, back, parts, writes, silent) = last_to_write q (serial agenda) some in
       let there : Contains (serial agenda) t = subst (λ l. Contains l t) (sym parts) (contains_back front (t ∷ back) t (contains_here t back)) in
       let (v, is, place) = h.last t there writes in
       let same : t ≡ v = by_place front t back parts silent there v is place in
-      ap (λ l. row_at (run rows l) q) parts ∙ last_writes q rows front t back writes silent ∙ ap (λ u. version_row rows q (Some u)) same ∙ sym (ap (version_row rows q) is)
+      inr (record { front = front; tx = t; back = back; parts = parts; writes = writes; silent = silent; newest_is = is ∙ ap Some (sym same) })
+
+newest_row : (q : Cell) (rows : List StoredRow) (agenda : List Member) (chain : List Transaction) → AreApart agenda → AreVersions q agenda chain → row_at (run rows (serial agenda)) q ≡ version_row rows q (newest chain)
+newest_row q rows agenda chain apart h = by_case (newest_cases q agenda chain apart h) where
+  by_case : ((newest chain ≡ None) × AllByRecursion (λ t. writes_key (operations t) q ≡ false) (serial agenda)) ⊎ IsNewestWriter q (serial agenda) chain → row_at (run rows (serial agenda)) q ≡ version_row rows q (newest chain)
+  by_case (inl (none, silent)) = silent_run q rows (serial agenda) silent ∙ sym (ap (version_row rows q) none)
+  by_case (inr n) = ap (λ l. row_at (run rows l) q) n.parts ∙ last_writes q rows n.front n.tx n.back n.writes n.silent ∙ sym (ap (version_row rows q) n.newest_is)
+
+newest_number : (q : Cell) (agenda : List Member) (chain : List Transaction) → AreApart agenda → AreVersions q agenda chain → option_map (λ t. t.number) (newest chain) ≡ last_writer_from None q (serial agenda)
+newest_number q agenda chain apart h = by_case (newest_cases q agenda chain apart h) where
+  by_case : ((newest chain ≡ None) × AllByRecursion (λ t. writes_key (operations t) q ≡ false) (serial agenda)) ⊎ IsNewestWriter q (serial agenda) chain → option_map (λ t. t.number) (newest chain) ≡ last_writer_from None q (serial agenda)
+  by_case (inl (none, silent)) = ap (option_map (λ (t : Transaction). t.number)) none ∙ sym (last_writer_silent None q (serial agenda) silent)
+  by_case (inr n) = ap (option_map (λ (t : Transaction). t.number)) n.newest_is
+      ∙ sym (found_by q (serial agenda) n.tx.number (record { front = n.front; tx = n.tx; back = n.back; parts = n.parts; number = refl; writes = n.writes; silent = n.silent }))
 
 -- the chain in the order of commits
 sublist_push : {A : Type 0} (xs ys : List A) (y : A) → IsSublist xs ys → IsSublist xs (ys ++ y ∷ [])
@@ -151,23 +178,38 @@ module _ (built : State → Line → Bool) (base : Base) (history : List Entry) 
       (λ i. row_at (run ((structure_of built base history legal).rows i) (serial (agenda_is i))) q)
       ∙ newest_row q base.rows (agenda_from [] moves) (chain_of q moves) (logged_all moves lawful).apart (versions_all q moves lawful)
 
+  pub newest_is_last : option_map (λ t. t.number) (newest (chain_of q (state base history).moves)) ≡ last_writer_from None q (serial (state base history).agenda)
+  newest_is_last =
+      let moves = (state base history).moves in
+      newest_number q (agenda_from [] moves) (chain_of q moves) (logged_all moves lawful).apart (versions_all q moves lawful) ∙ ap (λ ms. last_writer_from None q (serial ms)) (sym agenda_is)
+
   -- the moves before a slot begin all moves
   until_parts : (n : ℕ) → (state base history).moves ≡ moves_until n (state base history).moves ++ from_first (λ m. is_slot n m.move) (state base history).moves
   until_parts n = sym (parts_join (λ (m : Timed). is_slot n m.move) (state base history).moves)
 
   module _ (batch : LiveBatch) (live : Contains (live_batches (state base history)) batch) where
-    -- the newest one of those that were installed before its slot gives the row of its snapshot
-    pub newest_is_snapshot : row_at (run base.rows batch.snapshot) q ≡ version_row base.rows q (newest (chain_of q (moves_until batch.tx.number (state base history).moves)))
-    newest_is_snapshot =
+    abbrev before : List Timed
+    before = moves_until batch.tx.number (state base history).moves
+
+    first : AreLawful [] before
+    first = lawful_front [] before (from_first (λ (m : Timed). is_slot batch.tx.number m.move) (state base history).moves) (subst (AreLawful []) (until_parts batch.tx.number) lawful)
+
+    taken : batch.snapshot ≡ serial (agenda_from [] before)
+    taken =
         let s = state base history in
         let (o, there, is) = given_item (λ (o : Active). as_live o.kind (transaction_of o)) s.active batch live in
         let (kind, same) = open_live o.kind o batch is in
         let number : o.number ≡ batch.tx.number = ap (λ (b : LiveBatch). b.tx.number) same in
         let stands = subst (λ k. StandsAs s.agenda s.moves k o.number o.steps) kind (all_contains (Stands s.agenda s.moves) s.active o (structure_of built base history legal).stands there) in
-        let taken : batch.snapshot ≡ serial (agenda_from [] (moves_until batch.tx.number s.moves)) = stands.taken ∙ ap (λ n. serial (agenda_from [] (moves_until n s.moves))) number in
-        let before : List Timed = moves_until batch.tx.number s.moves in
-        let first : AreLawful [] before = lawful_front [] before (from_first (λ (m : Timed). is_slot batch.tx.number m.move) s.moves) (subst (AreLawful []) (until_parts batch.tx.number) lawful) in
-        ap (λ l. row_at (run base.rows l) q) taken ∙ newest_row q base.rows (agenda_from [] before) (chain_of q before) (logged_all before first).apart (versions_all q before first)
+        stands.taken ∙ ap (λ n. serial (agenda_from [] (moves_until n s.moves))) number
+
+    -- the newest one of those that were installed before its slot gives the row of its snapshot
+    pub newest_is_snapshot : row_at (run base.rows batch.snapshot) q ≡ version_row base.rows q (newest (chain_of q (moves_until batch.tx.number (state base history).moves)))
+    newest_is_snapshot = ap (λ l. row_at (run base.rows l) q) taken ∙ newest_row q base.rows (agenda_from [] before) (chain_of q before) (logged_all before first).apart (versions_all q before first)
+
+    -- and is the last writer of its snapshot
+    pub newest_is_last_before : option_map (λ t. t.number) (newest (chain_of q (moves_until batch.tx.number (state base history).moves))) ≡ last_writer batch q
+    newest_is_last_before = newest_number q (agenda_from [] before) (chain_of q before) (logged_all before first).apart (versions_all q before first) ∙ ap (last_writer_from None q) (sym taken)
 
     -- and these begin the chain
     pub chain_before_slot : IsPrefix (chain_of q (moves_until batch.tx.number (state base history).moves)) (chain_of q (state base history).moves)

@@ -6,14 +6,14 @@ use Rattle.ltx_model.specs.declared.writes.Write.{Write}
 use Rattle.ltx_model.specs.Tables.{has_table}
 use Rattle.ltx_model.specs.Keys.{Cell, same_cell}
 use Rattle.ltx_model.specs.Operations.{Transaction, operations, table_of, cell_of_write, looks_up_key, looks_into_table, writes_of}
-use Rattle.ltx_model.specs.Agenda.{Member, LiveSlot, Committed, number_of, has_number, is_member, part_before}
+use Rattle.ltx_model.specs.Agenda.{Member, LiveSlot, Committed, number_of, has_number, is_member, part_before, commits_after}
 use Rattle.ltx_model.specs.States.{Kind, IsShort, IsPending, IsLive, Active, transaction_of, Base, State, LiveBatch, as_live, live_batches}
-use Rattle.ltx_model.specs.Batches.{batch_operations, commits_after_slot, committed_ahead, writes_what_looks, preserves_what_looks, overtakes, target, Overtakes, IsOvertakenLive, IsTarget, overtaken_live, is_from, may_still_read, elder_reader, MayRead, HasWitness, Waits, Refusal, late_or, first_witness, first_late, first_contradicted, waits, Witness}
-use Rattle.ltx_lemmas.specs.Pairs.{IsPairwise}
+use Rattle.ltx_model.specs.Batches.{batch_operations, committed_ahead, writes_what_looks, preserves_what_looks, overtakes, target, Overtakes, IsOvertakenLive, IsTarget, overtaken_live, is_from, may_still_read, elder_reader, MayRead, HasWitness, Waits, Refusal, late_or, first_witness, first_late, first_contradicted, waits, Witness}
+use Rattle.ltx_model.specs.Lists.{IsPairwise}
 use Rattle.ltx_laws.specs.Structure.{IsKnown, IsBefore, Structure}
 use Rattle.ltx_lemmas.proofs.Lists.{any_contains, any_item, all_contains, find_contains, find_passes, find_none, before_contains, some_same, none_some, true_false}
 use Rattle.ltx_lemmas.proofs.Searches.{write_at, is_written_of}
-use Rattle.ltx_lemmas.proofs.Cells.{same_cell_refl}
+use Rattle.ltx_model.proofs.CellOrder.{same_cell_refl}
 use Rattle.ltx_laws.proofs.Pairs.{same_number, pairs_all}
 use Rattle.ltx_laws.proofs.Places.{and_left, and_right, both, found_first}
 use Rattle.ltx_laws.proofs.Targets.{target_found}
@@ -78,8 +78,8 @@ module _ (base : Base) (s : State) (inv : Structure base s) (i : LiveBatch) wher
       let same : Committed c.tx ≡ y = one_member s.agenda apart (Committed c.tx) y (serial_member s.agenda c.tx c.member) here (c.number ∙ sym number) in
       let w = write_at c.key (operations c.tx) c.writes in
       let looks : writes_what_looks i c.tx ≡ true = any_contains (λ (v : Write). looks_up_key (batch_operations i) (cell_of_write v)) (writes_of (operations c.tx)) w.0 w.1 (ap (looks_up_key (batch_operations i)) w.2 ∙ c.looks) in
-      let ahead : committed_ahead s i c.tx ≡ true = both (commits_after_slot s i.tx.number c.tx.number) (is_member (part_before i.tx.number s.agenda) c.tx.number)
-      (ap (commits_after_slot s i.tx.number) c.number ∙ c.later) (ap (is_member (part_before i.tx.number s.agenda)) c.number ∙ c.before) in
+      let ahead : committed_ahead s i c.tx ≡ true = both (commits_after s.moves i.tx.number c.tx.number) (is_member (part_before i.tx.number s.agenda) c.tx.number)
+      (ap (commits_after s.moves i.tx.number) c.number ∙ c.later) (ap (is_member (part_before i.tx.number s.agenda)) c.number ∙ c.before) in
       subst (λ m. overtakes s i m ≡ true) same (both (committed_ahead s i c.tx) (writes_what_looks i c.tx) ahead looks)
   overtakes_from j (inr l) (LiveSlot k) here number = subst (λ n. overtakes s i (LiveSlot n) ≡ true) (sym number) (live_overtaken j l)
   overtakes_from j (inr l) (Committed t) here number =

@@ -6,9 +6,9 @@ use Rattle.ltx_model.specs.declared.commands.Op.{Op}
 use Rattle.ltx_model.specs.Operations.{table_of, touches}
 use Rattle.ltx_model.specs.States.{Kind, IsShort, IsPending, IsLive, Active, transaction_of, State, LiveBatch, as_live, live_batches}
 use Rattle.ltx_model.specs.Shorts.{holds, holder, IsHeld, Held, lesser, held_table, IsLeastHeld}
+use Rattle.ltx_model.specs.Lists.{IsPairwise}
 use Rattle.ltx_lemmas.proofs.Lists.{some_same, none_some, contains_cases, all_contains, find_passes, find_contains, find_not}
 use Rattle.ltx_lemmas.proofs.Members.{same_number}
-use Rattle.ltx_lemmas.specs.Pairs.{IsPairwise}
 
 abbrev pub AreRising : List LiveBatch → Type 0
 AreRising bs = IsPairwise (λ a b. a.tx.number < b.tx.number) bs

@@ -1,8 +1,7 @@
 -- The moves without those of batches that left: what a log keeps of them.
 use Rattle.std.specs.Prelude.{◌≡◌, ℕ, Bool, true, false, not, ◌==◌, List, [], ◌∷◌, ◌++◌, filter, Contains}
 use Rattle.std.specs.List.{list_any}
-use Rattle.ltx_model.specs.Agenda.{Member, LiveSlot, Move, Slot, CommitShort, CommitHome, CommitBefore, Leave, Timed, is_member, part_before, agenda_from}
-use Rattle.ltx_laws.specs.Structure.{has_slot}
+use Rattle.ltx_model.specs.Agenda.{Member, LiveSlot, Move, Slot, CommitShort, CommitHome, CommitBefore, Leave, Timed, is_member, part_before, agenda_from, has_slot}
 
 -- a batch of this number leaves
 abbrev pub leaves : ℕ → Move → Bool

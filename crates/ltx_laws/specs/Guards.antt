@@ -4,10 +4,9 @@ use Rattle.std.specs.List.{AllByRecursion}
 use Rattle.ltx_model.specs.Tables.{has_table}
 use Rattle.ltx_model.specs.Keys.{Cell}
 use Rattle.ltx_model.specs.Operations.{Transaction, operations, looks_into_table, writes_key}
-use Rattle.ltx_model.specs.Agenda.{Member, LiveSlot, Committed, Timed}
+use Rattle.ltx_model.specs.Agenda.{Member, LiveSlot, Committed, Timed, has_slot}
 use Rattle.ltx_model.specs.States.{Declaration, Kind, IsShort, IsPending, IsLive, State}
-use Rattle.ltx_lemmas.specs.Pairs.{IsPairwise}
-use Rattle.ltx_laws.specs.Structure.{has_slot}
+use Rattle.ltx_model.specs.Lists.{IsPairwise}
 
 -- the transaction looks into no table of a set
 abbrev pub LooksIntoNone : ℕ → Transaction → Type 0

@@ -5,11 +5,10 @@ pub mod Told
 pub mod Commits
 pub mod Drops
 pub mod Priority
-pub mod Logs
-pub mod Versions
 pub mod Refusals
-pub mod Played
 pub mod Floors
 pub mod LastWriters
 pub mod Answered
 pub mod Areas
+pub mod Printed
+pub mod AskedLimits

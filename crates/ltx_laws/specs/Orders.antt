@@ -1,5 +1,5 @@
 -- Places in an order, and beginnings of lists.
-use Rattle.std.specs.Prelude.{◌≡◌, ℕ, true, ◌==◌, List, ◌++◌}
+use Rattle.std.specs.Prelude.{◌≡◌, ◌⊎◌, ℕ, true, ◌==◌, List, [], ◌∷◌, ◌++◌}
 use Rattle.std.specs.List.{list_any}
 use Rattle.ltx_model.specs.Lists.{before_first}
 
@@ -12,3 +12,9 @@ pub record StandsBefore (numbers : List ℕ) (a b : ℕ) : Type 0 where
 pub record IsPrefix {A : Type 0} (front whole : List A) : Type 0 where
   pub rest : List A
   pub parts : whole ≡ front ++ rest
+
+-- the items of the first list stand in the second, in the same order
+abbrev pub IsSublist : {A : Type 0} → List A → List A → Type 0
+IsSublist [] ys = Unit {0}
+IsSublist (x ∷ xs) [] = ⊥
+IsSublist (x ∷ xs) (y ∷ ys) = ((x ≡ y) × IsSublist xs ys) ⊎ IsSublist (x ∷ xs) ys

@@ -2,14 +2,10 @@
 use Rattle.std.specs.Prelude.{◌≡◌, ◌≢◌, ℕ, ◌<◌, ◌≤◌, Bool, true, false, not, ◌==◌, List, [], filter, None, IsPermutation}
 use Rattle.std.specs.List.{list_any, AllByRecursion}
 use Rattle.ltx_model.specs.Operations.{Transaction}
-use Rattle.ltx_model.specs.Agenda.{Member, LiveSlot, Committed, number_of, is_member, Move, Slot, CommitShort, CommitHome, CommitBefore, Leave, Timed, agenda_from, serial, is_slot, commits_of, commits_batch, moves_since, moves_until, part_before}
+use Rattle.ltx_model.specs.Agenda.{Member, LiveSlot, Committed, number_of, is_member, Move, Slot, CommitShort, CommitHome, CommitBefore, Leave, Timed, agenda_from, serial, has_slot, commits_after, commits_of, moves_until, part_before}
 use Rattle.ltx_model.specs.States.{Declaration, Kind, IsShort, IsPending, IsLive, Step, Active, Base, State}
 use Rattle.ltx_model.specs.Answers.{refusal}
-use Rattle.ltx_lemmas.specs.Pairs.{IsPairwise}
-
--- a batch of this number became live in these moves
-abbrev pub has_slot : List Timed → ℕ → Bool
-has_slot moves n = list_any (λ m. is_slot n m.move) moves
+use Rattle.ltx_model.specs.Lists.{IsPairwise}
 
 -- the move commits the batch n before a target
 abbrev pub forwards : ℕ → Move → Bool
@@ -22,10 +18,6 @@ forwards n (Leave m) = false
 -- a batch of this number was committed before a target in these moves
 abbrev pub is_forwarded : List Timed → ℕ → Bool
 is_forwarded moves n = list_any (λ m. forwards n m.move) moves
-
--- a batch of this number committed after the slot of n
-abbrev pub commits_after : List Timed → ℕ → ℕ → Bool
-commits_after moves n c = list_any (λ m. commits_batch c m.move) (moves_since n moves)
 
 -- of a live batch, what is said of it
 abbrev pub if_live : Kind → Bool → Bool

@@ -4,13 +4,12 @@ ghost use Rattle.std.specs.Prelude.{◌≡◌, ℕ, ◌<◌, Bool, true, false, 
 ghost use Rattle.ltx_model.specs.declared.commands.Line.{Line};
 ghost use Rattle.ltx_model.specs.declared.replies.Entry.{Entry};
 ghost use Rattle.ltx_model.specs.Operations.{Transaction};
-ghost use Rattle.ltx_model.specs.Agenda.{Committed, serial};
+ghost use Rattle.ltx_model.specs.Agenda.{Committed, serial, has_slot};
 ghost use Rattle.ltx_model.specs.States.{Declaration, IsShort, IsPending, IsLive, Active, transaction_of, Base, IsSound, State, order};
 ghost use Rattle.ltx_model.specs.Histories.{state};
 ghost use Rattle.ltx_model.specs.Answers.{IsLegalWith};
 ghost use Rattle.ltx_laws.specs.Commits.{IsCommitOf, IsHomeReply, IsForwardedReply, IsPrintedForwarded, StandsJustBefore};
 ghost use Rattle.ltx_laws.specs.Orders.{StandsBefore};
-ghost use Rattle.ltx_laws.specs.Structure.{has_slot};
 
 /// A committed short stands after every transaction that was committed before it, in every longer history.
 pub fn short_stands_after_the_committed()

@@ -1,14 +1,15 @@
 //! The floor: the place in the agenda before which nothing changes any more.
 
-ghost use Rattle.std.specs.Prelude.{◌≡◌, ℕ, Bool, true, List, [], ◌++◌, Some, None, Contains};
+ghost use Rattle.std.specs.Prelude.{◌≡◌, ℕ, Bool, true, false, List, [], ◌∷◌, ◌++◌, Option, Some, None, Contains};
 ghost use Rattle.ltx_model.specs.declared.commands.Line.{Line};
 ghost use Rattle.ltx_model.specs.declared.replies.Entry.{Entry};
 ghost use Rattle.ltx_model.specs.Operations.{Transaction};
-ghost use Rattle.ltx_model.specs.Agenda.{serial, part_before};
-ghost use Rattle.ltx_model.specs.States.{Base, IsSound, State, LiveBatch, live_batches};
+ghost use Rattle.ltx_model.specs.Agenda.{serial, is_member, part_before};
+ghost use Rattle.ltx_model.specs.States.{Active, Base, IsSound, State, LiveBatch, live_batches};
 ghost use Rattle.ltx_model.specs.Histories.{state};
 ghost use Rattle.ltx_model.specs.Answers.{IsLegalWith};
-ghost use Rattle.ltx_model.specs.Batches.{target, is_from, floor, before_floor, safe};
+ghost use Rattle.ltx_model.specs.Batches.{target, Overtakes, Witness, is_from, IsLate, IsContradicted, MayRead, floor, before_floor, safe};
+ghost use Rattle.ltx_laws.specs.Commits.{IsCommitOf};
 ghost use Rattle.ltx_laws.specs.Floors.{CountsForFloor, IsFloor};
 ghost use Rattle.ltx_laws.specs.Orders.{IsPrefix};
 
@@ -77,4 +78,49 @@ pub fn safe_is_a_prefix()
     ensures order { (built : State → Line → Bool) (base : Base) (history more : List Entry) → IsSound base
         → IsLegalWith built base (history ++ more)
         → IsPrefix (safe (state base history)) (serial (state base (history ++ more)).agenda) }
+{}
+
+/// Who stands before the floor, or anywhere where there is none, never stands at or after a later floor: so each member at or after the
+/// floor of a longer history stood at or after this one's, or was no member yet. A short that commits while no batch is live never
+/// stands at or after a floor.
+pub fn settled_members_stay_settled()
+    ensures settled { (built : State → Line → Bool) (base : Base) (history more : List Entry) → IsSound base
+        → IsLegalWith built base (history ++ more)
+        → (n f : ℕ) → is_member (before_floor (state base history)) n ≡ true → floor (state base (history ++ more)) ≡ Some f
+        → is_from (state base (history ++ more)) f n ≡ false }
+    ensures kept { (built : State → Line → Bool) (base : Base) (history more : List Entry) → IsSound base
+        → IsLegalWith built base (history ++ more)
+        → (n f : ℕ) → floor (state base (history ++ more)) ≡ Some f → is_from (state base (history ++ more)) f n ≡ true
+        → is_member (state base history).agenda n ≡ true
+        → (g : ℕ) × (floor (state base history) ≡ Some g) × (is_from (state base history) g n ≡ true) }
+    ensures alone { (built : State → Line → Bool) (base : Base) (history more : List Entry) (entry : Entry) → IsSound base
+        → IsLegalWith built base (history ++ entry ∷ more)
+        → (o : Active) → IsCommitOf (state base history) entry o → live_batches (state base history) ≡ []
+        → (f : ℕ) → floor (state base (history ++ entry ∷ more)) ≡ Some f
+        → is_from (state base (history ++ entry ∷ more)) f o.number ≡ false }
+{}
+
+/// Whom the commit of a live batch asks for stands at or after the floor: each overtaken member, and at the batch's target each late
+/// writer, each contradicted reader and each elder that may still read. So nothing need be kept of who stands before the floor.
+pub fn commits_ask_from_the_floor()
+    ensures overtaken { (built : State → Line → Bool) (base : Base) (history : List Entry) → IsSound base
+        → IsLegalWith built base history
+        → (i : LiveBatch) → Contains (live_batches (state base history)) i
+        → (f : ℕ) → floor (state base history) ≡ Some f
+        → (j : ℕ) → Overtakes (state base history) i j → is_from (state base history) f j ≡ true }
+    ensures late { (built : State → Line → Bool) (base : Base) (history : List Entry) → IsSound base
+        → IsLegalWith built base history
+        → (i : LiveBatch) → Contains (live_batches (state base history)) i
+        → (f : ℕ) → floor (state base history) ≡ Some f → (p : ℕ) → target (state base history) i ≡ Some p
+        → (w : Witness) → IsLate (state base history) i p w → is_from (state base history) f w.other ≡ true }
+    ensures contradicted { (built : State → Line → Bool) (base : Base) (history : List Entry) → IsSound base
+        → IsLegalWith built base history
+        → (i : LiveBatch) → Contains (live_batches (state base history)) i
+        → (f : ℕ) → floor (state base history) ≡ Some f → (p : ℕ) → target (state base history) i ≡ Some p
+        → (w : Witness) → IsContradicted (state base history) i p w → is_from (state base history) f w.other ≡ true }
+    ensures reader { (built : State → Line → Bool) (base : Base) (history : List Entry) → IsSound base
+        → IsLegalWith built base history
+        → (i : LiveBatch) → Contains (live_batches (state base history)) i
+        → (f : ℕ) → floor (state base history) ≡ Some f → (p : ℕ) → target (state base history) i ≡ Some p
+        → (k : LiveBatch) → MayRead (state base history) i p k → is_from (state base history) f k.tx.number ≡ true }
 {}

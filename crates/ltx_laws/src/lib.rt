@@ -3,10 +3,13 @@
 
 pub mod answers;
 pub mod batch_witnesses;
+pub mod bounds;
 pub mod commits;
 pub mod epochs;
 pub mod floor;
+pub mod marks;
 pub mod preserve;
+pub mod printed;
 pub mod priority;
 pub mod recovery;
 pub mod refusals;

@@ -5,13 +5,12 @@ ghost use Rattle.ltx_model.specs.declared.commands.Line.{Line};
 ghost use Rattle.ltx_model.specs.declared.replies.Entry.{Entry};
 ghost use Rattle.ltx_model.specs.Tables.{has_table};
 ghost use Rattle.ltx_model.specs.Operations.{Transaction, operations, touches};
-ghost use Rattle.ltx_model.specs.Agenda.{serial, part_before, part_from};
+ghost use Rattle.ltx_model.specs.Agenda.{serial, part_before, part_from, has_slot};
 ghost use Rattle.ltx_model.specs.States.{IsShort, Active, transaction_of, Base, IsSound, State, LiveBatch, live_batches};
 ghost use Rattle.ltx_model.specs.Histories.{state};
 ghost use Rattle.ltx_model.specs.Answers.{IsLegalWith};
 ghost use Rattle.ltx_laws.specs.Commits.{IsCommitOf};
 ghost use Rattle.ltx_laws.specs.Guards.{LooksIntoNone, WritesNone};
-ghost use Rattle.ltx_laws.specs.Structure.{has_slot};
 
 /// No short commits a touch of a table that a live batch preserves at that moment.
 pub fn short_commits_no_preserved_touch()

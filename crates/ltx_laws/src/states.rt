@@ -1,14 +1,15 @@
 //! States: what a state keeps in every legal history, read off its open transactions, moves and agenda.
 
-ghost use Rattle.std.specs.Prelude.{◌≡◌, ℕ, ◌+◌, ◌<◌, Bool, true, List, [], Contains};
+ghost use Rattle.std.specs.Prelude.{◌≡◌, ℕ, ◌+◌, ◌<◌, Bool, true, List, [], map, Contains};
 ghost use Rattle.std.specs.List.{AllByRecursion};
 ghost use Rattle.ltx_model.specs.declared.commands.Line.{Line};
 ghost use Rattle.ltx_model.specs.declared.replies.Entry.{Entry};
-ghost use Rattle.ltx_model.specs.Agenda.{Slot, is_member, part_before, agenda_from, commits_of, moves_until, serial};
+ghost use Rattle.ltx_model.specs.Agenda.{Member, number_of, Move, Slot, agenda_after, is_member, part_before, agenda_from, commits_of, moves_until, serial};
 ghost use Rattle.ltx_model.specs.States.{Declaration, IsPending, Active, Base, IsSound, State, LiveBatch, live_batches};
 ghost use Rattle.ltx_model.specs.Histories.{state};
 ghost use Rattle.ltx_model.specs.Answers.{IsLegalWith};
-ghost use Rattle.ltx_model.specs.Explained.{committed_in};
+ghost use Rattle.ltx_model.specs.Listings.{numbers_of, list_after, list_from};
+ghost use Rattle.ltx_model.specs.Explained.{IsDistinct, committed_in};
 ghost use Rattle.ltx_laws.specs.Areas.{IsInside};
 ghost use Rattle.ltx_laws.specs.Structure.{AreOpen, Structure};
 ghost use Rattle.ltx_laws.specs.Told.{opens_of};
@@ -54,6 +55,16 @@ pub fn batches_stay_inside_what_they_declared()
 pub fn agenda_is_what_moves_give()
     ensures agenda { (built : State → Line → Bool) (base : Base) (history : List Entry) → IsSound base
         → IsLegalWith built base history → (state base history).agenda ≡ agenda_from [] (state base history).moves }
+{}
+
+/// On the agenda's numbers alone, each move does what it does on the agenda: it appends, leaves, moves before a target or takes out. So
+/// the numbers of the agenda's members, none of which stands there twice, are what the moves give on the empty list of numbers.
+pub fn moves_change_the_numbers_alike()
+    ensures each { (members : List Member) (move : Move) → map number_of (agenda_after members move) ≡ list_after (map number_of members) move }
+    ensures numbers { (built : State → Line → Bool) (base : Base) (history : List Entry) → IsSound base
+        → IsLegalWith built base history → numbers_of (state base history) ≡ list_from [] (state base history).moves }
+    ensures distinct { (built : State → Line → Bool) (base : Base) (history : List Entry) → IsSound base
+        → IsLegalWith built base history → IsDistinct (numbers_of (state base history)) }
 {}
 
 /// The snapshot of a live batch is the serial order that the moves before its slot give.

@@ -13,7 +13,8 @@ use Rattle.ltx_model.specs.States.{Step}
 use Rattle.ltx_model.specs.Shorts.{Change, Changes, IsNotAfter, IsFirstChange, same_writer, candidates, is_changed, change_of, first_change}
 use Rattle.ltx_lemmas.proofs.Lists.{some_same, none_some, contains_here, contains_cases, contains_parts, contains_back, all_contains, find_passes}
 use Rattle.ltx_lemmas.proofs.Searches.{first_none, first_given, is_in, is_in_before, is_in_now, none_passes, numbered_item}
-use Rattle.ltx_lemmas.proofs.FirstSearches.{number_behind, numbered_once, AreRisingCells, first_not_after, rising_both, cells_one}
+use Rattle.ltx_lemmas.proofs.FirstSearches.{number_behind, numbered_once, AreRisingCells, first_not_after, rising_both}
+use Rattle.ltx_model.proofs.CellOrder.{cells_one}
 
 differ : (a b : Option ℕ) → same_writer a b ≡ false → a ≢ b
 differ None None e h = cc

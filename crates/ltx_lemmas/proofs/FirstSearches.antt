@@ -1,19 +1,17 @@
 -- Searches over numbered items and over rising keys: the first of them is the least.
 use Rattle.std.proofs.Common.{◌≡◌, ◌⊎◌, inl, inr, ℕ, ◌+◌, ◌<◌, Bool, true, false, cond, ◌||◌, List, [], ◌∷◌, ◌++◌, map, Some, refl, sym, ap, ◌∙◌, subst, arith, Contains}
 use Rattle.std.specs.List.{find, AllByRecursion}
-use Rattle.std.specs.declared.cmp.Ordering.{Ordering}
-use Rattle.std.specs.declared.cmp.Ordering.TheVariants.{Less, Equal, Greater}
+use Rattle.std.specs.declared.cmp.Ordering.TheVariants.{Less}
 use Rattle.std.specs.Ordering.{is_le}
-use Rattle.ltx_model.specs.Lists.{Numbered, numbered, numbered_from}
+use Rattle.ltx_model.specs.Lists.{Numbered, numbered, numbered_from, IsPairwise}
 use Rattle.ltx_model.specs.Keys.{Cell, cell_cmp, same_cell, AreAbove, IsRising, put_in_order}
 use Rattle.ltx_model.specs.declared.rows.StoredRow.{StoredRow}
 use Rattle.ltx_model.specs.StoredRows.{cell_of}
 use Rattle.ltx_model.specs.Shorts.{cells_into, cells_of_both}
 use Rattle.ltx_lemmas.proofs.Lists.{some_same, none_some, contains_here, contains_cases, contains_parts, contains_back, all_contains, find_passes}
-use Rattle.ltx_lemmas.proofs.Cells.{same_cell_same, cell_cmp_refl}
-use Rattle.ltx_lemmas.proofs.Rising.{rising_put}
+use Rattle.ltx_model.proofs.CellOrder.{same_cell_same, cell_itself}
+use Rattle.ltx_model.proofs.Rising.{rising_put}
 use Rattle.ltx_lemmas.proofs.Searches.{is_in}
-use Rattle.ltx_lemmas.specs.Pairs.{IsPairwise}
 use Rattle.ltx_lemmas.proofs.Pairwise.{pairs_behind}
 
 module _ {X : Type 0} where
@@ -58,7 +56,7 @@ AreRisingCells cells = IsRising (λ (c : Cell). c) cells
 not_after : (x q : Cell) (xs : List Cell) → AreAbove (λ (c : Cell). c) x xs → (same_cell x q || is_in q xs) ≡ true → is_le (cell_cmp x q) ≡ true
 not_after x q xs above here = by_test (same_cell x q) refl here where
   by_test : (b : Bool) → same_cell x q ≡ b → (b || is_in q xs) ≡ true → is_le (cell_cmp x q) ≡ true
-  by_test true e h = subst (λ c. is_le (cell_cmp x c) ≡ true) (same_cell_same x q e) (ap is_le (cell_cmp_refl x))
+  by_test true e h = subst (λ c. is_le (cell_cmp x c) ≡ true) (same_cell_same x q e) (ap is_le (cell_itself x))
   by_test false e h =
       let found = Rattle.ltx_lemmas.proofs.Lists.any_item (λ (c : Cell). same_cell c q) xs h in
       let less : cell_cmp x found.0 ≡ Less = all_contains (λ (c : Cell). cell_cmp x c ≡ Less) xs found.0 above found.1 in
@@ -88,11 +86,3 @@ rising_into cells (row ∷ rows) rising = rising_into (put_in_order (λ (c : Cel
 -- the keys of two maps rise
 pub rising_both : (before now : List StoredRow) → IsRising cell_of before → AreRisingCells (cells_of_both before now)
 rising_both before now rising = rising_into (map cell_of before) now (rising_map before rising)
-
--- keys that are not after each other are one
-pub cells_one : (a b : Cell) → is_le (cell_cmp a b) ≡ true → is_le (cell_cmp b a) ≡ true → a ≡ b
-cells_one a b h g = by_cmp (cell_cmp a b) refl h where
-  by_cmp : (o : Ordering) → cell_cmp a b ≡ o → is_le o ≡ true → a ≡ b
-  by_cmp Equal e h = Rattle.ltx_lemmas.proofs.Cells.same_cells a b e
-  by_cmp Greater e h = cc
-  by_cmp Less e h = absurd (let flipped : is_le (cell_cmp b a) ≡ false = ap is_le (Rattle.ltx_lemmas.proofs.Cells.flip_less a b e) in let both : false ≡ true = sym flipped ∙ g in let no : ⊥ = cc in no)

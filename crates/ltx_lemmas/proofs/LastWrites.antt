@@ -4,13 +4,15 @@ use Rattle.ltx_model.specs.declared.commands.Op.{Op}
 use Rattle.ltx_model.specs.declared.commands.Op.TheVariants.{Get, Scan, Put, Del}
 use Rattle.ltx_model.specs.declared.rows.StoredRow.{StoredRow}
 use Rattle.ltx_model.specs.declared.writes.Write.{Write}
-use Rattle.ltx_model.specs.Keys.{Cell, same_cell, put_in_order, IsRising}
+use Rattle.ltx_model.specs.Keys.{Cell, same_cell, put_in_order, IsRising, item_at}
 use Rattle.ltx_model.specs.StoredRows.{cell_of, row_at}
 use Rattle.ltx_model.specs.Operations.{Transaction, operations, write_of, cell_of_write, put_write, writes_after, writes_of}
-use Rattle.ltx_model.specs.Rows.{rows_after, rows_after_all, rows_after_transaction, run}
-use Rattle.ltx_lemmas.specs.Writes.{rows_after_put, rows_after_writes, rows_after_last_writes}
-use Rattle.ltx_lemmas.proofs.Cells.{item_at, item_at-put, row_at-put, row_at-without, same_cell_same}
-use Rattle.ltx_lemmas.proofs.Rising.{absent, rising_put, rising_filter, rising_after_all, rising_transaction, same_rows}
+use Rattle.ltx_model.specs.Rows.{rows_after, rows_after_all, rows_after_transaction, run, rows_after_put, rows_after_writes, rows_after_last_writes}
+use Rattle.ltx_model.proofs.ItemsAt.{item_at-put}
+use Rattle.ltx_model.proofs.RowsAt.{row_at-put, row_at-without}
+use Rattle.ltx_model.proofs.CellOrder.{same_cell_same}
+use Rattle.ltx_lemmas.proofs.Rising.{rising_after_all, rising_transaction, same_rows}
+use Rattle.ltx_model.proofs.Rising.{item_at-above, rising_put, rising_filter}
 
 -- what a key's row is after the write of it, if there is one
 abbrev put_row : ℕ → Cell → Option (List ℕ) → Option StoredRow
@@ -40,7 +42,7 @@ row_at-writes n rows [] q rising = refl
 row_at-writes n rows (w ∷ ws) q rising =
     row_at-writes n (rows_after_put n rows (cell_of_write w) w.put) ws q rising.1 ∙ by_test (same_cell (cell_of_write w) q) refl where
       none : same_cell (cell_of_write w) q ≡ true → item_at cell_of_write ws q ≡ None
-      none e = subst (λ c. item_at cell_of_write ws c ≡ None) (same_cell_same (cell_of_write w) q e) (absent cell_of_write (cell_of_write w) ws rising.0)
+      none e = subst (λ c. item_at cell_of_write ws c ≡ None) (same_cell_same (cell_of_write w) q e) (item_at-above cell_of_write (cell_of_write w) ws rising.0)
 
       by_test : (b : Bool) → same_cell (cell_of_write w) q ≡ b
           → row_by n (item_at cell_of_write ws q) (row_at (rows_after_put n rows (cell_of_write w) w.put) q) ≡ row_by n (cond b (Some w) (item_at cell_of_write ws q)) (row_at rows q)

@@ -1,7 +1,7 @@
 -- What holds of each pair of a list holds of the pairs of its parts.
 use Rattle.std.specs.Prelude.{List, [], ◌∷◌, ◌++◌}
 use Rattle.std.specs.List.{AllByRecursion}
-use Rattle.ltx_lemmas.specs.Pairs.{IsPairwise}
+use Rattle.ltx_model.specs.Lists.{IsPairwise}
 
 module _ {A : Type 0} where
   -- the items behind one in the middle

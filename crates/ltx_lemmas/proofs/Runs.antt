@@ -15,7 +15,7 @@ use Rattle.ltx_model.specs.Batches.{unless_any, contradicted}
 use Rattle.ltx_model.proofs.OneMore.{run-append, gives-append, gives-one}
 use Rattle.ltx_lemmas.specs.Sources.{IsWrittenBy, AreSourced}
 use Rattle.ltx_lemmas.proofs.Lists.{true_false, some_same, none_some, filter_append, any_not_all, find_none_from, contains_here, contains_back}
-use Rattle.ltx_lemmas.proofs.Cells.{row_at-put, row_at-without}
+use Rattle.ltx_model.proofs.RowsAt.{row_at-put, row_at-without}
 use Rattle.ltx_lemmas.proofs.Rising.{rising_transaction, rising_run}
 use Rattle.ltx_lemmas.proofs.Views.{agree_after, agree_written, unwritten_after, row_at-unwritten, play_agrees}
 

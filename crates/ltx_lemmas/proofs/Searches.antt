@@ -8,13 +8,14 @@ use Rattle.ltx_model.specs.declared.commands.Op.{Op}
 use Rattle.ltx_model.specs.declared.rows.StoredRow.{StoredRow}
 use Rattle.ltx_model.specs.declared.writes.Write.{Write}
 use Rattle.ltx_model.specs.Lists.{Numbered, numbered_from, numbered, or_else, first_some}
-use Rattle.ltx_model.specs.Keys.{Cell, same_cell, put_in_order}
+use Rattle.ltx_model.specs.Keys.{Cell, same_cell, put_in_order, item_at}
 use Rattle.ltx_model.specs.StoredRows.{cell_of, row_at}
 use Rattle.ltx_model.specs.Operations.{Transaction, operations, write_of, cell_of_write, is_write_at, writes_key, put_write, writes_after, writes_of}
 use Rattle.ltx_model.specs.Shorts.{cells_into, cells_of_both}
 use Rattle.ltx_model.specs.Batches.{last_writer_from, cells_written, cells_written_by}
 use Rattle.ltx_lemmas.proofs.Lists.{true_false, none_some, any_map, any_item, any_not_all, find_not, contains_here, contains_later, contains_cases, contains_none}
-use Rattle.ltx_lemmas.proofs.Cells.{same_cell_same, item_at, item_at-put}
+use Rattle.ltx_model.proofs.CellOrder.{same_cell_same}
+use Rattle.ltx_model.proofs.ItemsAt.{item_at-put}
 
 -- the first item of which something is given
 pub or_else_none : {A : Type 0} (a b : Option A) → or_else a b ≡ None → (a ≡ None) × (b ≡ None)

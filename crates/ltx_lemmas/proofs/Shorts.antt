@@ -11,12 +11,13 @@ use Rattle.ltx_model.specs.declared.rows.StoredRow.{StoredRow}
 use Rattle.ltx_model.specs.Lists.{numbered_from, first_some}
 use Rattle.ltx_model.specs.Keys.{Cell, in_range, IsRising}
 use Rattle.ltx_model.specs.StoredRows.{cell_of, row_at, writer_at}
-use Rattle.ltx_model.specs.Operations.{writes_at, covers, looks_up}
+use Rattle.ltx_model.specs.Operations.{Transaction, writes_at, covers, looks_up}
 use Rattle.ltx_model.specs.Rows.{row_of, rows_after, rows_after_all, reply_on, found, see, play}
 use Rattle.ltx_model.specs.States.{Step}
 use Rattle.ltx_model.specs.Shorts.{change_of, is_changed, same_writer, cells_of_both, first_change}
-use Rattle.ltx_lemmas.proofs.Cells.{same_cell_refl}
-use Rattle.ltx_lemmas.proofs.Rising.{rising_after_all, same_filter}
+use Rattle.ltx_model.proofs.CellOrder.{same_cell_refl}
+use Rattle.ltx_lemmas.proofs.Rising.{rising_after_all}
+use Rattle.ltx_model.proofs.Rising.{same_filter}
 use Rattle.ltx_lemmas.proofs.Views.{agree_after, agree_written, rows_after_all-push}
 use Rattle.ltx_lemmas.proofs.Searches.{is_in, is_in_before, is_in_now, none_passes, or_else_none}
 
@@ -75,19 +76,19 @@ scan_sees n table low high now earlier step is tell none q covered = by_rows (ro
   by_rows (Some r) b ea eb = unchanged (is_in_before q step.latest now r ea)
 
 -- an operation that is not changed would be answered alike now
-sees_alike : (n k : ℕ) (now before : List StoredRow) (earlier : List Step) (op : Op) (reply : Reply) → IsRising cell_of before → IsRising cell_of now → DoWritersTell before now
-    → change_of now (record { number = k; earlier = earlier; item = record { op = op; reply = reply; latest = before } }) ≡ None
+sees_alike : (n k : ℕ) (now before : List StoredRow) (order : List Transaction) (earlier : List Step) (op : Op) (reply : Reply) → IsRising cell_of before → IsRising cell_of now → DoWritersTell before now
+    → change_of now (record { number = k; earlier = earlier; item = record { op = op; reply = reply; order = order; latest = before } }) ≡ None
     → reply_on (rows_after_all n before (map (λ b. b.op) earlier)) op ≡ reply_on (rows_after_all n now (map (λ b. b.op) earlier)) op
-sees_alike n k now before earlier (Get table key) reply rb rn tell e =
+sees_alike n k now before order earlier (Get table key) reply rb rn tell e =
     let c : Cell = record { table = table; key = key } in
     ap found (cell_sees n before now (map (λ b. b.op) earlier) (Get table key) c tell (same_cell_refl c) (not_chosen _ _ _ e))
-sees_alike n k now before earlier (Scan table low high) reply rb rn tell e =
+sees_alike n k now before order earlier (Scan table low high) reply rb rn tell e =
     let ops : List Op = map (λ b. b.op) earlier in
     ap (λ (l : List StoredRow). Rows (map row_of l))
     (same_filter cell_of (in_scan table low high) (rows_after_all n before ops) (rows_after_all n now ops) (rising_after_all n before ops rb) (rising_after_all n now ops rn)
-    (scan_sees n table low high now earlier (record { op = Scan table low high; reply = reply; latest = before }) refl tell (none_mapped _ _ e)))
-sees_alike n k now before earlier (Put table key value) reply rb rn tell e = refl
-sees_alike n k now before earlier (Del table key) reply rb rn tell e = refl
+    (scan_sees n table low high now earlier (record { op = Scan table low high; reply = reply; order = order; latest = before }) refl tell (none_mapped _ _ e)))
+sees_alike n k now before order earlier (Put table key value) reply rb rn tell e = refl
+sees_alike n k now before order earlier (Del table key) reply rb rn tell e = refl
 
 play_from : (n k : ℕ) (now : List StoredRow) (earlier steps : List Step) → IsRising cell_of now → AllByRecursion (λ s. IsRising cell_of s.latest) steps → AllByRecursion (λ s. DoWritersTell s.latest now) steps
     → AreSeenThen n (map (λ b. b.op) earlier) steps → first_some (change_of now) (numbered_from k earlier steps) ≡ None
@@ -97,7 +98,7 @@ play_from n k now earlier [] rn rising tell seen none = refl
 play_from n k now earlier (s ∷ steps) rn rising tell seen none =
     let ops : List Op = map (λ (b : Step). b.op) earlier in
     let both = or_else_none (change_of now (record { number = k; earlier = earlier; item = s })) (first_some (change_of now) (numbered_from (k + 1) (earlier ++ s ∷ []) steps)) none in
-    let head : reply_on (rows_after_all n now ops) s.op ≡ s.reply = sym (seen.0 ∙ sees_alike n k now s.latest earlier s.op s.reply rising.0 rn tell.0 both.0) in
+    let head : reply_on (rows_after_all n now ops) s.op ≡ s.reply = sym (seen.0 ∙ sees_alike n k now s.latest s.order earlier s.op s.reply rising.0 rn tell.0 both.0) in
     let names : map (λ (b : Step). b.op) (earlier ++ s ∷ []) ≡ ops ++ s.op ∷ [] = map-append (λ (b : Step). b.op) earlier (s ∷ []) in
     let more : rows_after_all n now (map (λ (b : Step). b.op) (earlier ++ s ∷ [])) ≡ rows_after n (rows_after_all n now ops) s.op = ap (rows_after_all n now) names ∙ rows_after_all-push n now ops s.op in
     let rest : play n (rows_after n (rows_after_all n now ops) s.op) (map (λ (b : Step). b.op) steps) ≡ map (λ (b : Step). b.reply) steps =

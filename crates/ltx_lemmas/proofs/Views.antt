@@ -13,8 +13,10 @@ use Rattle.ltx_model.specs.Operations.{Answered, Transaction, operations, writes
 use Rattle.ltx_model.specs.Rows.{row_of, rows_after, rows_after_all, reply_on, found, see, play}
 use Rattle.ltx_lemmas.specs.Plays.{AreSeen}
 use Rattle.ltx_lemmas.proofs.Lists.{true_false}
-use Rattle.ltx_lemmas.proofs.Cells.{row_at-put, row_at-without, same_cell_refl}
-use Rattle.ltx_lemmas.proofs.Rising.{rising_after_all, same_filter}
+use Rattle.ltx_model.proofs.RowsAt.{row_at-put, row_at-without}
+use Rattle.ltx_model.proofs.CellOrder.{same_cell_refl}
+use Rattle.ltx_lemmas.proofs.Rising.{rising_after_all}
+use Rattle.ltx_model.proofs.Rising.{same_filter}
 
 -- One operation: rows that agree at a key agree there afterwards, and where it writes the key they agree in any case.
 pub row_at-after : (n : ℕ) (rows more : List StoredRow) (op : Op) (q : Cell) → row_at rows q ≡ row_at more q → row_at (rows_after n rows op) q ≡ row_at (rows_after n more op) q

@@ -1,4 +1,15 @@
 pub mod OneMore
+pub mod NoteMarks
 pub mod WorkedScripts
+pub mod WorkedLogs
+pub mod WorkedParts
+pub mod Decided
 pub mod TableSets
+pub mod Orderings
 pub mod Words
+pub mod FirstPlace
+pub mod KeyOrder
+pub mod CellOrder
+pub mod ItemsAt
+pub mod Rising
+pub mod RowsAt

@@ -4,6 +4,7 @@ use Rattle.std.specs.Ordering.{ordering_then, MatchOrdering}
 use Rattle.std.specs.Cmp.{nat_cmp_is, ranks}
 use Rattle.std.specs.Cmp.Lexicographic.{slice_cmp}
 use Rattle.std.specs.Int.{from_be_bytes}
+use Rattle.ltx_model.proofs.Orderings.{then_none, then_assoc}
 
 -- the number that the bytes spell after those that spell n
 abbrev number : ℕ → List ℕ → ℕ
@@ -12,16 +13,6 @@ number n (x ∷ xs) = number (n * 256 + x) xs
 
 abbrev AreBytes : List ℕ → Type 0
 AreBytes xs = (i : ℕ) → get_or xs i 0 < 256
-
-then-none : (r : Ordering) → ordering_then r Equal ≡ r
-then-none Less = refl
-then-none Equal = refl
-then-none Greater = refl
-
-then-assoc : (r s t : Ordering) → ordering_then (ordering_then r s) t ≡ ordering_then r (ordering_then s t)
-then-assoc Less s t = refl
-then-assoc Equal s t = refl
-then-assoc Greater s t = refl
 
 high_first : (a b u v : ℕ) → u < 256 → v < 256 → (r s : Ordering) → MatchOrdering r (a < b) (a ≡ b) (b < a) → MatchOrdering s (u < v) (u ≡ v) (v < u)
     → MatchOrdering (ordering_then r s) (a * 256 + u < b * 256 + v) (a * 256 + u ≡ b * 256 + v) (b * 256 + v < a * 256 + u)
@@ -37,13 +28,13 @@ digit a b u v low_u low_v = sym (nat_cmp_is _ _ _ (high_first a b u v low_u low_
 
 -- more bytes after numbers that are at hand
 numbers : (a b : ℕ) (xs ys : List ℕ) → length xs ≡ length ys → AreBytes xs → AreBytes ys → nat_cmp (number a xs) (number b ys) ≡ ordering_then (nat_cmp a b) (slice_cmp nat_cmp xs ys)
-numbers a b [] [] same low_x low_y = sym (then-none (nat_cmp a b))
+numbers a b [] [] same low_x low_y = sym (then_none (nat_cmp a b))
 numbers a b [] (y ∷ ys) same low_x low_y = absurd (omega arith)
 numbers a b (x ∷ xs) [] same low_x low_y = absurd (omega arith)
 numbers a b (x ∷ xs) (y ∷ ys) same low_x low_y =
     numbers (a * 256 + x) (b * 256 + y) xs ys (omega arith) (λ i. low_x (suc i)) (λ i. low_y (suc i))
     ∙ ap (λ r. ordering_then r (slice_cmp nat_cmp xs ys)) (digit a b x y (low_x 0) (low_y 0))
-    ∙ then-assoc (nat_cmp a b) (nat_cmp x y) (slice_cmp nat_cmp xs ys)
+    ∙ then_assoc (nat_cmp a b) (nat_cmp x y) (slice_cmp nat_cmp xs ys)
 
 -- eight bytes are read as the number that they spell, and so are four
 spelt_8 : (xs : List ℕ) → length xs ≡ 8 → from_be_bytes w64 xs ≡ number 0 xs

@@ -21,7 +21,7 @@ use Rattle.ltx_model.specs.Answers.{everything, answer, entries_from, is_full, c
 use Rattle.ltx_model.specs.Explained.{committed_in, committed_from}
 
 -- an empty log, one whose last epoch has come, and one whose last number was given
-abbrev blank : Base
+abbrev pub blank : Base
 blank = record { rows = []; durable = 0; last = 0; gate = 17 }
 
 abbrev at_last_epoch : Base
@@ -39,7 +39,7 @@ before_last_number = record { rows = []; durable = 4294967293; last = 9223372036
 abbrev with_gate : ℕ → Base
 with_gate gate = record { rows = []; durable = 0; last = 0; gate = gate }
 
-abbrev asks : ℕ → Verb → Line
+abbrev pub asks : ℕ → Verb → Line
 asks session verb = lines.Good (Ask session verb)
 
 abbrev replies_to : Base → List Line → List Reply
@@ -76,7 +76,7 @@ unfolding entries_from answer after state_from run see first_change target first
 read_sees_commit_order = refl
 
 -- two shorts read and write one key: the second to commit is refused
-abbrev lost_update_is_refused : List Line
+abbrev pub lost_update_is_refused : List Line
 lost_update_is_refused =
     asks 1 verbs.Short ∷
     asks 1 (verbs.Do (Put 0 (120 ∷ []) (97 ∷ []))) ∷
@@ -170,7 +170,7 @@ unfolding entries_from answer after state_from run see first_change target first
 absent_then_and_now_passes_order = refl
 
 -- a short that read before a batch became live is refused at its commit
-abbrev preserve_is_met_at_commit : List Line
+abbrev pub preserve_is_met_at_commit : List Line
 preserve_is_met_at_commit =
     asks 1 verbs.Short ∷
     asks 1 (verbs.Do (Get 0 (120 ∷ []))) ∷
@@ -240,7 +240,7 @@ unfolding entries_from answer after state_from run see first_change target first
 declarations_bind_order = refl
 
 -- write skew of two batches: the younger waits, and is then contradicted
-abbrev skew_of_batches_is_refused : List Line
+abbrev pub skew_of_batches_is_refused : List Line
 skew_of_batches_is_refused =
     asks 1 (verbs.Long 1 18446744073709551615) ∷
     asks 2 (verbs.Long 2 18446744073709551615) ∷
@@ -272,7 +272,7 @@ unfolding entries_from answer after state_from run see first_change target first
 skew_of_batches_is_refused_order = refl
 
 -- a batch is placed before an older one that it overtook
-abbrev younger_is_forwarded : List Line
+abbrev pub younger_is_forwarded : List Line
 younger_is_forwarded =
     asks 1 (verbs.Long 1 4) ∷
     asks 2 (verbs.Long 2 18446744073709551615) ∷
@@ -306,7 +306,7 @@ unfolding entries_from answer after state_from run see first_change target first
 younger_is_forwarded_order = refl
 
 -- the snapshot of a batch has a write that stands after its place
-abbrev late_read_is_refused : List Line
+abbrev pub late_read_is_refused : List Line
 late_read_is_refused =
     asks 1 (verbs.Long 1 18446744073709551615) ∷
     lines.Good Epoch ∷
@@ -384,7 +384,7 @@ unfolding entries_from answer after state_from run see first_change target first
 elder_aborts_order = refl
 
 -- a forwarded write is not the latest where a later one stands
-abbrev forwarded_write_stays_under : List Line
+abbrev pub forwarded_write_stays_under : List Line
 forwarded_write_stays_under =
     asks 1 (verbs.Long 1 4) ∷
     lines.Good Epoch ∷
@@ -462,7 +462,7 @@ unfolding entries_from answer after state_from run see first_change target first
 forwarded_before_a_refused_one_order = refl
 
 -- each flush makes the closed epochs durable
-abbrev closed_epochs_become_durable : List Line
+abbrev pub closed_epochs_become_durable : List Line
 closed_epochs_become_durable =
     asks 1 verbs.Short ∷
     asks 1 (verbs.Do (Put 0 (120 ∷ []) (97 ∷ []))) ∷
@@ -672,7 +672,7 @@ unfolding entries_from answer after state_from run see first_change target first
 one_transaction_a_session_order = refl
 
 -- a deletion that a batch saw stays a witness after a prune
-abbrev deletion_keeps_its_witness : List Line
+abbrev pub deletion_keeps_its_witness : List Line
 deletion_keeps_its_witness =
     asks 1 verbs.Short ∷
     asks 1 (verbs.Do (Put 5 (120 ∷ []) (118 ∷ []))) ∷
@@ -958,7 +958,7 @@ unfolding entries_from answer after state_from run see first_change target first
 first_late_key_order = refl
 
 -- who committed before the slot is not overtaken
-abbrev committed_before_the_slot : List Line
+abbrev pub committed_before_the_slot : List Line
 committed_before_the_slot =
     asks 1 (verbs.Long 4 1) ∷
     lines.Good Epoch ∷
@@ -1698,7 +1698,7 @@ sealed_last_writes = refl
 
 -- the floor and the safe members: a forwarded batch stands before the live elder that it overtook, an elder that aborted is gone,
 -- a batch that committed before the slot of the live one does not count, and without a live batch all are safe
-abbrev state_after : ℕ → List Line → State
+abbrev pub state_after : ℕ → List Line → State
 state_after n ls = state blank (take n (entries_from everything (first_state blank) ls))
 
 abbrev safe_numbers : State → List ℕ

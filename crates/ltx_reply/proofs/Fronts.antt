@@ -1,16 +1,8 @@
--- A text that keeps a longer front keeps a shorter one.
+-- The text of a refusal of a batch, in two pieces.
 use Rattle.std.proofs.Common.{◌≡◌, ◌++◌, ℕ, List, [], ◌∷◌, length, take, refl, codes, sym, ap, ◌∙◌, append_assoc}
 use Rattle.ltx_model.specs.declared.replies.Reply.{Reply}
 use Rattle.ltx_model.specs.declared.replies.Reply.TheVariants.{Contradicts}
 use Rattle.ltx_reply.specs.Texts.{witness_text, reply_text}
-
-pub front_of : (a b x : List ℕ) → take (length (a ++ b)) x ≡ a ++ b → take (length a) x ≡ a
-front_of [] b x e = refl
-front_of (y ∷ a) b [] e = cc
-front_of (y ∷ a) b (z ∷ x) e =
-    let heads : z ≡ y = cc in
-    let tails : take (length (a ++ b)) x ≡ a ++ b = cc in
-    λ i. heads i ∷ front_of a b x tails i
 
 -- the text of a refusal of a batch by a contradicted reader
 pub contradicts_text : (target op table : ℕ) (key : List ℕ) (reader : ℕ) → reply_text (Contradicts target op table key reader) ≡ codes "contradicts" ++ witness_text target op table key reader

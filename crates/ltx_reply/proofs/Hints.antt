@@ -13,10 +13,13 @@ use Rattle.ltx_text.specs.Words.{AreVisible, is_visible, word_of}
 use Rattle.ltx_text.specs.Decimals.{decimal_of}
 use Rattle.ltx_text.proofs.DecimalLemmas.{decimal_digits, decimal_is_visible, no_digit}
 use Rattle.ltx_text.proofs.WordLemmas.{word_is_visible}
-use Rattle.ltx_reply.specs.Texts.{spaced, row_text, writer_text, cause_text, reply_text, witness_text, IsReply, IsTx, IsCount, IsTable, IsKey, IsValue, IsWriter, IsRow, IsWithinLimits}
-use Rattle.ltx_reply.specs.Readings.{words_of, tx_at, count_at, table_at, key_at, value_at, writer_at, cause_at, five, begun_at, committed_at, rows_in, rows_at, preserved_at, changed_at, late_at, contradicts_at, numbered_at, single_at, worded_at, fixed_at, guess_at}
+use Rattle.ltx_reply.specs.Texts.{row_text, writer_text, cause_text, reply_text, witness_text, IsReply, IsWriter, IsRow, IsWithinLimits}
+use Rattle.ltx_model.specs.Limits.{IsTx, IsCount, IsTable, IsKey, IsValue}
+use Rattle.ltx_text.specs.Cuts.{spaced, cut_at, words_of}
+use Rattle.ltx_reply.specs.Readings.{tx_at, count_at, table_at, key_at, value_at, writer_at, cause_at, five, begun_at, committed_at, rows_in, rows_at, preserved_at, changed_at, late_at, contradicts_at, numbered_at, single_at, worded_at, fixed_at, guess_at}
 use Rattle.ltx_text.proofs.WordReadings.{bytes_again, both_true, other_bytes, same_bytes}
-use Rattle.ltx_reply.proofs.PartLemmas.{number_again, key_some, value_some}
+use Rattle.ltx_text.proofs.Numbers.{number_some}
+use Rattle.ltx_reply.proofs.PartLemmas.{key_some, value_some}
 
 -- ---- words are cut apart
 
@@ -43,7 +46,7 @@ named : (word : List ℕ) → list_all is_visible word ≡ true → HasNoSpace w
 named word e = visible_word word (All-from_recursion (λ b. IsTrue (is_visible b)) word (all_visible word e))
 
 pub cut_words : (word : List ℕ) (words : List (List ℕ)) → AllByRecursion HasNoSpace (word ∷ words) → words_of (join_with_byte 32 (word ∷ words)) ≡ word ∷ words
-unfolding words_of
+unfolding cut_at
 cut_words word [] apart = slice_split_none (λ b. b == 32) word apart.0
 cut_words word (next ∷ words) apart =
     slice_split_at (λ b. b == 32) word 32 (join_with_byte 32 (next ∷ words)) apart.0 refl ∙ ap (λ (ws : List (List ℕ)). word ∷ ws) (cut_words next words apart.1)
@@ -60,19 +63,19 @@ tx_apart : (n : ℕ) → IsTx n → HasNoSpace (decimal_of n)
 tx_apart n tx = visible_word (decimal_of n) (decimal_is_visible n (omega (arith, tx.1)))
 
 tx_again : (n : ℕ) → IsTx n → tx_at (decimal_of n) ≡ Some n
-tx_again n tx = number_again (decimal_of n) 1 (2 ^ 63) n (omega (arith, tx.1)) refl (omega (arith, tx.0)) tx.1
+tx_again n tx = number_some (decimal_of n) 1 9223372036854775808 n (omega (arith, tx.0)) (omega (arith, tx.1)) (omega arith) refl
 
 count_apart : (n : ℕ) → IsCount n → HasNoSpace (decimal_of n)
 count_apart n low = visible_word (decimal_of n) (decimal_is_visible n (omega (arith, low)))
 
 count_again : (n : ℕ) → IsCount n → count_at (decimal_of n) ≡ Some n
-count_again n low = number_again (decimal_of n) 0 (2 ^ 32) n (omega (arith, low)) refl (omega arith) low
+count_again n low = number_some (decimal_of n) 0 4294967296 n (omega arith) low (omega arith) refl
 
 table_apart : (n : ℕ) → IsTable n → HasNoSpace (decimal_of n)
 table_apart n low = visible_word (decimal_of n) (decimal_is_visible n (omega (arith, low)))
 
 table_again : (n : ℕ) → IsTable n → table_at (decimal_of n) ≡ Some n
-table_again n low = number_again (decimal_of n) 0 64 n (omega (arith, low)) refl (omega arith) low
+table_again n low = number_some (decimal_of n) 0 64 n (omega arith) low (omega arith) refl
 
 key_apart : (key : List ℕ) → IsKey key → HasNoSpace (word_of key)
 key_apart key is = visible_word (word_of key) (word_is_visible key is.bytes)

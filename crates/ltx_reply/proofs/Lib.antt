@@ -4,3 +4,4 @@ pub mod PartLemmas
 pub mod Rising
 pub mod RowsRead
 pub mod Spaces
+pub mod WorkedRecoveries

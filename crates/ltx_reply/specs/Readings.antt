@@ -1,25 +1,17 @@
 -- A guess at the reply that a text is, by its words. Each text of a reply gives this reply; another text may give one as well.
-use Rattle.std.specs.Prelude.{ℕ, ◌^◌, ◌==◌, ◌&&◌, nat_lt, nat_le, if◌then◌else◌, List, [], ◌∷◌, length, Option, Some, None, codes, bytes_eq}
-use Rattle.std.specs.List.{slice_split}
-use Rattle.std.specs.Str.Parse.{digits_value}
+use Rattle.std.specs.Prelude.{ℕ, ◌+◌, ◌&&◌, nat_le, if◌then◌else◌, List, [], ◌∷◌, length, Option, Some, None, codes, bytes_eq}
 use Rattle.ltx_model.specs.declared.commands.Bad.{Bad}
 use Rattle.ltx_model.specs.declared.commands.Bad.TheVariants as causes
 use Rattle.ltx_model.specs.declared.replies.Reply.{Reply}
 use Rattle.ltx_model.specs.declared.replies.Reply.TheVariants as replies
 use Rattle.ltx_model.specs.declared.rows.Row.{Row}
+use Rattle.ltx_model.specs.Limits.{table_count, last_number, count_limit, key_limit, value_limit}
+use Rattle.ltx_model.specs.Lists.{or_else}
 use Rattle.ltx_text.specs.Readings.{bytes_of}
-use Rattle.ltx_text.specs.Decimals.{decimal_of}
+use Rattle.ltx_text.specs.Cuts.{words_of}
+use Rattle.ltx_text.specs.Decimals.{number_in}
 
 -- ---- words
-
--- the words of a text: the parts between its spaces
-unfoldable pub words_of : List ℕ → List (List ℕ)
-words_of text = slice_split (λ b. b == 32) text
-
--- the words of what stands behind a space, if there is one
-abbrev pub words_after : Option (List ℕ) → List (List ℕ)
-words_after None = []
-words_after (Some text) = words_of text
 
 infixl 10 ◌>>=◌
 -- what follows a step that gave something
@@ -44,22 +36,15 @@ five words = do
 
 -- ---- parts and their spellings
 
--- the number with this decimal, from the first on and below another
-unfoldable pub number_in : ℕ → ℕ → List ℕ → Option ℕ
-number_in first past word =
-    if nat_le first (digits_value 10 word) && nat_lt (digits_value 10 word) past && bytes_eq (decimal_of (digits_value 10 word)) word
-    then Some (digits_value 10 word)
-    else None
-
 abbrev pub tx_at : List ℕ → Option ℕ
-tx_at word = number_in 1 (2 ^ 63) word
+tx_at word = number_in 1 (last_number + 1) word
 
 -- an epoch or an operation
 abbrev pub count_at : List ℕ → Option ℕ
-count_at word = number_in 0 (2 ^ 32) word
+count_at word = number_in 0 count_limit word
 
 abbrev pub table_at : List ℕ → Option ℕ
-table_at word = number_in 0 64 word
+table_at word = number_in 0 table_count word
 
 -- a byte string of such a length
 abbrev pub of_length : ℕ → ℕ → Option (List ℕ) → Option (List ℕ)
@@ -67,10 +52,10 @@ of_length least most None = None
 of_length least most (Some bytes) = if nat_le least (length bytes) && nat_le (length bytes) most then Some bytes else None
 
 abbrev pub key_at : List ℕ → Option (List ℕ)
-key_at word = of_length 1 64 (bytes_of word)
+key_at word = of_length 1 key_limit (bytes_of word)
 
 abbrev pub value_at : List ℕ → Option (List ℕ)
-value_at word = of_length 0 1024 (bytes_of word)
+value_at word = of_length 0 value_limit (bytes_of word)
 
 abbrev pub some_writer : Option ℕ → Option (Option ℕ)
 some_writer None = None
@@ -224,10 +209,6 @@ fixed_at text =
 abbrev pub said_by : List (List ℕ) → Option Reply
 said_by [] = None
 said_by (word ∷ words) = worded_at word words
-
-abbrev pub or_else : {X : Type 0} → Option X → Option X → Option X
-or_else (Some x) other = Some x
-or_else None other = other
 
 -- the reply at which the words of a text hint
 unfoldable pub guess_at : List ℕ → Option Reply

@@ -1,5 +1,5 @@
 -- The text of each reply: words of visible bytes with one space between two.
-use Rattle.std.specs.Prelude.{◌≢◌, ℕ, ◌<◌, ◌≤◌, ◌^◌, List, ◌∷◌, ◌++◌, length, flat_map, Option, Some, None, codes}
+use Rattle.std.specs.Prelude.{◌≢◌, ℕ, ◌<◌, ◌^◌, List, ◌++◌, length, flat_map, Option, Some, None, codes}
 use Rattle.std.specs.List.{AllByRecursion}
 use Rattle.ltx_model.specs.declared.commands.Bad.{Bad}
 use Rattle.ltx_model.specs.declared.commands.Bad.TheVariants as causes
@@ -7,12 +7,10 @@ use Rattle.ltx_model.specs.declared.replies.Reply.{Reply}
 use Rattle.ltx_model.specs.declared.replies.Reply.TheVariants as replies
 use Rattle.ltx_model.specs.declared.rows.Row.{Row}
 use Rattle.ltx_model.specs.Keys.{Cell, IsRising}
-use Rattle.ltx_text.specs.Words.{AreBytes, word_of}
+use Rattle.ltx_text.specs.Cuts.{spaced}
+use Rattle.ltx_text.specs.Words.{word_of}
+use Rattle.ltx_model.specs.Limits.{IsTx, IsTable, IsCount, IsKey, IsValue}
 use Rattle.ltx_text.specs.Decimals.{decimal_of}
-
--- a word after a space
-abbrev pub spaced : List ℕ → List ℕ
-spaced word = 32 ∷ word
 
 -- a transaction's number, or `none`
 abbrev pub writer_text : Option ℕ → List ℕ
@@ -80,33 +78,10 @@ IsReply (replies.Late target op table key writer) = 0 < op
 IsReply (replies.Contradicts target op table key reader) = 0 < op
 IsReply reply = Unit {0}
 
--- a transaction is numbered from 1 on, in 63 bits
-abbrev pub IsTx : ℕ → Type 0
-IsTx n = (0 < n) × (n < 2 ^ 63)
-
 -- a writer, if there is one
 abbrev pub IsWriter : Option ℕ → Type 0
 IsWriter None = Unit {0}
 IsWriter (Some n) = IsTx n
-
--- epochs and operations are numbered in 32 bits
-abbrev pub IsCount : ℕ → Type 0
-IsCount n = n < 2 ^ 32
-
--- there are 64 tables
-abbrev pub IsTable : ℕ → Type 0
-IsTable n = n < 64
-
--- a key is 1 to 64 bytes
-pub record IsKey (key : List ℕ) : Type 0 where
-  pub some : 0 < length key
-  pub short : length key ≤ 64
-  pub bytes : AreBytes key
-
--- a value is 0 to 1,024 bytes
-pub record IsValue (value : List ℕ) : Type 0 where
-  pub short : length value ≤ 1024
-  pub bytes : AreBytes value
 
 abbrev pub IsRow : Row → Type 0
 IsRow row = IsKey row.key × IsValue row.value

@@ -1,26 +1,12 @@
 //! The words of a text, one after another, without a copy.
 
 ghost use Rattle.std.specs.Prelude.{◌≡◌, ◌<◌, length, ◌∷◌, Option, Some, None, MatchOption, option_copied, bytes_eq};
-ghost use Rattle.ltx_reply.specs.Readings.{words_of, words_after, next_word, five};
+ghost use Rattle.ltx_reply.specs.Readings.{next_word, five};
+ghost use Rattle.ltx_text.specs.Cuts.{words_of, words_after};
 ghost use Rattle.ltx_reply.specs.Readers.{Gives};
 
 use crate::unread::Unread;
-use memchr::memchr;
-
-/// The first word, and what stands behind the space after it, if there is one.
-pub(crate) fn cut(text: &[u8]) -> (&[u8], Option<&[u8]>)
-    ensures parts { words_of text.now ≡ result.0.now ∷ words_after (option_copied result.1) }
-    ensures shorter { MatchOption result.1 (result.0.now ≡ text.now) (λ rest. length rest.now < length text.now) }
-{
-    match memchr(b' ', text) {
-        None => (text, None),
-        Some(i) => {
-            let (front, rest) = text.split_at(i);
-            let (_, after) = rest.split_at(1);
-            (front, Some(after))
-        }
-    }
-}
+use ltx_text::cuts::cut;
 
 /// The next word and what stands behind it.
 pub(crate) fn next_word(rest: Option<&[u8]>) -> Result<(&[u8], Option<&[u8]>), Unread>
@@ -28,7 +14,7 @@ pub(crate) fn next_word(rest: Option<&[u8]>) -> Result<(&[u8], Option<&[u8]>), U
 {
     match rest {
         None => Err(Unread::NoReply),
-        Some(text) => Ok(cut(text)),
+        Some(text) => Ok(cut(text, b' ')),
     }
 }
 

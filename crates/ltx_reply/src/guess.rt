@@ -2,16 +2,18 @@
 //! give one as well, since what stands at an end is not looked at.
 
 ghost use Rattle.std.specs.Prelude.{◌≡◌, Option, Some, None, option_copied};
-ghost use Rattle.ltx_reply.specs.Readings.{words_after, numbered_at, single_at, worded_at, fixed_at, guess_at};
+ghost use Rattle.ltx_reply.specs.Readings.{numbered_at, single_at, worded_at, fixed_at, guess_at};
+ghost use Rattle.ltx_text.specs.Cuts.{words_after};
 ghost use Rattle.ltx_reply.specs.Readers.{Gives};
 
-use crate::cuts::{cut, is, next_word};
+use crate::cuts::{is, next_word};
 use crate::kinds::{
     begun_of, changed_of, committed_of, contradicts_of, late_of, preserved_of, rows_of,
 };
 use crate::parts::{cause_of, count_of, table_of, tx_of, value_of};
 use crate::unread::Unread;
 use ltx_model::replies::Reply;
+use ltx_text::cuts::cut;
 use std::alloc::Global;
 
 /// A reply with one number behind its first word.
@@ -123,6 +125,6 @@ pub(crate) fn guess(alloc: Global, text: &[u8]) -> Result<Reply, Unread>
     if let Some(reply) = fixed_of(text) {
         return Ok(reply);
     }
-    let (word, rest) = cut(text);
+    let (word, rest) = cut(text, b' ');
     worded_of(alloc, word, rest)
 }

@@ -1,14 +1,16 @@
 //! Replies with parts, each kind from the words behind its first one.
 
 ghost use Rattle.std.specs.Prelude.{Option, Some, option_copied};
-ghost use Rattle.ltx_reply.specs.Readings.{words_after, begun_at, committed_at, rows_in, rows_at, preserved_at, changed_at, late_at, contradicts_at};
+ghost use Rattle.ltx_reply.specs.Readings.{begun_at, committed_at, rows_in, rows_at, preserved_at, changed_at, late_at, contradicts_at};
+ghost use Rattle.ltx_text.specs.Cuts.{words_after};
 ghost use Rattle.ltx_reply.specs.Readers.{Gives};
 
-use crate::cuts::{cut, five, next_word};
+use crate::cuts::{five, next_word};
 use crate::parts::{count_of, key_of, table_of, tx_of, value_of, writer_of};
 use crate::unread::Unread;
 use ltx_model::replies::Reply;
 use ltx_model::rows::{Row, RowList};
+use ltx_text::cuts::cut;
 use std::alloc::Global;
 
 /// A begin: its transaction, and its epoch where it is told.
@@ -21,7 +23,7 @@ pub(crate) fn begun_of(rest: Option<&[u8]>) -> Result<Reply, Unread>
     let Some(text) = rest else {
         return Ok(Reply::Begun { tx });
     };
-    let (_, rest) = cut(text);
+    let (_, rest) = cut(text, b' ');
     let (word, _) = next_word(rest)?;
     let epoch = count_of(word)?;
     Ok(Reply::BegunAt { tx, epoch })
@@ -37,7 +39,7 @@ pub(crate) fn committed_of(rest: Option<&[u8]>) -> Result<Reply, Unread>
     let Some(text) = rest else {
         return Ok(Reply::Committed { epoch });
     };
-    let (_, rest) = cut(text);
+    let (_, rest) = cut(text, b' ');
     let (word, _) = next_word(rest)?;
     let target = tx_of(word)?;
     Ok(Reply::CommittedBefore { epoch, target })
@@ -53,11 +55,11 @@ fn rows_in(alloc: Global, rest: Option<&[u8]>) -> Result<Vec<Row>, Unread>
     };
     let mut text = first;
     loop {
-        let (key, after) = cut(text);
+        let (key, after) = cut(text, b' ');
         let Some(behind) = after else {
             return Err(Unread::NoReply);
         };
-        let (value, after) = cut(behind);
+        let (value, after) = cut(behind, b' ');
         let key = key_of(alloc, key)?;
         let value = value_of(alloc, value)?;
         rows.push(Row { key, value }).map_err(|_| Unread::Memory)?;

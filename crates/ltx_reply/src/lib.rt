@@ -4,7 +4,7 @@
 mod cuts;
 mod guess;
 mod kinds;
-pub mod limits;
+mod limits;
 mod parts;
 mod pieces;
 pub mod print;

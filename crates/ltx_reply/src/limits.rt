@@ -3,7 +3,8 @@
 
 ghost use Rattle.std.specs.Prelude.{◌<◌, ◌^◌, length, Option};
 ghost use Rattle.std.specs.List.{AllByRecursion};
-ghost use Rattle.ltx_reply.specs.Texts.{IsTx, IsWriter, IsCount, IsTable, IsKey, IsValue, IsRow, IsWithinLimits};
+ghost use Rattle.ltx_reply.specs.Texts.{IsWriter, IsRow, IsWithinLimits};
+ghost use Rattle.ltx_model.specs.Limits.{IsTx, IsCount, IsTable, IsKey, IsValue};
 
 use ltx_model::bytes::{Key, Value};
 use ltx_model::numbers::{Table, Tx};
@@ -89,7 +90,7 @@ fn rows(rows: &[Row])
 }
 
 /// That the reply is within the limits of its parts.
-pub fn is_within_limits(reply: &Reply)
+pub(crate) fn is_within_limits(reply: &Reply)
     ensures { IsWithinLimits reply.now }
 {
     match reply {

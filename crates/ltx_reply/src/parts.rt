@@ -1,6 +1,6 @@
 //! The parts of a reply, each from its word.
 
-ghost use Rattle.std.specs.Prelude.{◌≡◌, ◌<◌, Option, Some, None};
+ghost use Rattle.std.specs.Prelude.{◌≡◌, Option};
 ghost use Rattle.ltx_reply.specs.Readings.{tx_at, count_at, table_at, key_at, value_at, writer_at, cause_at};
 ghost use Rattle.ltx_reply.specs.Readers.{Gives};
 
@@ -9,7 +9,7 @@ use crate::unread::Unread;
 use ltx_model::bytes::{Key, Value};
 use ltx_model::commands::Bad;
 use ltx_model::numbers::{Table, Tx};
-use ltx_text::decimals::decimal;
+use ltx_text::decimals::number_in;
 use ltx_text::words::decode_word;
 use std::alloc::Global;
 
@@ -17,7 +17,7 @@ use std::alloc::Global;
 fn named_tx(word: &[u8]) -> Option<Tx>
     ensures { result ≡ tx_at word.now }
 {
-    Tx::new(decimal(word)?)
+    Tx::new(number_in(word, 1, 9_223_372_036_854_775_808)?)
 }
 
 /// The transaction with this number.
@@ -31,12 +31,7 @@ pub(crate) fn tx_of(word: &[u8]) -> Result<Tx, Unread>
 fn named_count(word: &[u8]) -> Option<u32>
     ensures { result ≡ count_at word.now }
 {
-    let n = decimal(word)?;
-    if n < 4_294_967_296 {
-        Some(n as u32)
-    } else {
-        None
-    }
+    Some(number_in(word, 0, 4_294_967_296)? as u32)
 }
 
 /// The epoch or operation with this number.
@@ -50,8 +45,7 @@ pub(crate) fn count_of(word: &[u8]) -> Result<u32, Unread>
 fn named_table(word: &[u8]) -> Option<Table>
     ensures { result ≡ table_at word.now }
 {
-    let n = decimal(word)?;
-    if n < 64 { Table::new(n as u8) } else { None }
+    Table::new(number_in(word, 0, u64::from(Table::COUNT))? as u8)
 }
 
 /// The table with this number.

@@ -1,45 +1,18 @@
-//! Pieces of a reply's text: fixed words, and numbers and byte strings after a space. Each is appended to a text;
-//! where memory is wanting, the text keeps what it held and may have a front of the piece behind it.
+//! Pieces of a reply's text. Each is appended; where memory is wanting, the text keeps what it held and may have a front
+//! of the piece behind it.
 
 ghost use Rattle.std.specs.Prelude.{◌≡◌, ◌++◌, Option, length, take, flat_map, OnOk};
 ghost use Rattle.ltx_text.specs.Words.{word_of};
 ghost use Rattle.ltx_text.specs.Decimals.{decimal_of};
-ghost use Rattle.ltx_reply.specs.Texts.{spaced, writer_text, row_text, cause_text};
+ghost use Rattle.ltx_reply.specs.Texts.{writer_text, row_text, cause_text};
+ghost use Rattle.ltx_text.specs.Cuts.{spaced};
 
 use ltx_model::bytes::Key;
 use ltx_model::commands::Bad;
 use ltx_model::memory::NoMemory;
 use ltx_model::numbers::{Table, Tx};
 use ltx_model::rows::Row;
-use ltx_text::decimals::put_decimal;
-use ltx_text::words::encode_word;
-
-/// Appends a fixed text.
-pub(crate) fn put_text(text: &[u8], out: &mut Vec<u8>) -> Result<(), NoMemory>
-    ensures ok { OnOk result (out.new.items ≡ out.old.items ++ text.now) }
-    ensures front { take (length out.old.items) out.new.items ≡ out.old.items }
-{
-    out.extend_from_slice(text)?;
-    Ok(())
-}
-
-/// Appends a space and a number.
-pub(crate) fn put_number(n: u64, out: &mut Vec<u8>) -> Result<(), NoMemory>
-    ensures ok { OnOk result (out.new.items ≡ out.old.items ++ spaced (decimal_of n)) }
-    ensures front { take (length out.old.items) out.new.items ≡ out.old.items }
-{
-    out.push(b' ')?;
-    put_decimal(n, out)
-}
-
-/// Appends a space and the word of a byte string.
-pub(crate) fn put_bytes(bytes: &[u8], out: &mut Vec<u8>) -> Result<(), NoMemory>
-    ensures ok { OnOk result (out.new.items ≡ out.old.items ++ spaced (word_of bytes.now)) }
-    ensures front { take (length out.old.items) out.new.items ≡ out.old.items }
-{
-    out.push(b' ')?;
-    encode_word(bytes, out)
-}
+use ltx_text::print::{put_bytes, put_number, put_text};
 
 /// Appends a word, a space and a number.
 pub(crate) fn put_named(word: &[u8], n: u64, out: &mut Vec<u8>) -> Result<(), NoMemory>

@@ -3,13 +3,12 @@
 ghost use Rattle.std.specs.Prelude.{◌≡◌, ◌++◌, length, take, OnOk, OnErr};
 ghost use Rattle.ltx_reply.specs.Texts.{witness_text, reply_text, IsReply};
 
-use crate::pieces::{
-    put_bytes, put_cause, put_named, put_number, put_place, put_rows, put_text, put_writer,
-};
+use crate::pieces::{put_cause, put_named, put_place, put_rows, put_writer};
 use ltx_model::bytes::Key;
 use ltx_model::memory::NoMemory;
 use ltx_model::numbers::{Table, Tx};
 use ltx_model::replies::Reply;
+use ltx_text::print::{or_taken_back, put_bytes, put_number, put_text};
 
 /// Appends a target, a place and another transaction, each after a space.
 #[tactic(auto, unfolding(crate::specs::Texts::witness_text))]
@@ -122,8 +121,5 @@ pub fn print_reply(reply: &Reply, out: &mut Vec<u8>) -> Result<(), NoMemory>
 {
     let start = out.len();
     let done = put_reply(reply, out);
-    if done.is_err() {
-        out.truncate(start);
-    }
-    done
+    or_taken_back(done, start, out)
 }

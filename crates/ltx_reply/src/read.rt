@@ -7,6 +7,7 @@ ghost use Rattle.ltx_reply.specs.Texts.{key_of, reply_text, IsReply, IsWithinLim
 
 use crate::cuts::is;
 use crate::guess::guess;
+use crate::limits::is_within_limits;
 use crate::print::print_reply;
 use crate::unread::Unread;
 use ltx_model::memory::NoMemory;
@@ -78,7 +79,7 @@ pub fn replies_have_texts_of_their_own()
 /// rows stand in strictly rising order of key. None exactly where no such reply has this text.
 pub fn read_reply(alloc: Global, text: &[u8]) -> Result<Option<Reply>, NoMemory>
     ensures found { IfOk result (λ found. IfSome found (λ reply. reply_text reply ≡ text.now)) }
-    ensures kept { IfOk result (λ found. IfSome found (λ reply. IsReply reply)) }
+    ensures kept { IfOk result (λ found. IfSome found (λ reply. IsReply reply × IsWithinLimits reply)) }
     ensures none { IfOk result (λ found. IfNone found ((reply : Reply) → IsReply reply →
         IsWithinLimits reply → reply_text reply ≢ text.now)) }
     // What was printed is read again.
@@ -96,6 +97,7 @@ pub fn read_reply(alloc: Global, text: &[u8]) -> Result<Option<Reply>, NoMemory>
     let mut printed = Vec::new(alloc);
     print_reply(&reply, &mut printed)?;
     if is(&printed, text) {
+        is_within_limits(&reply);
         Ok(Some(reply))
     } else {
         Ok(None)

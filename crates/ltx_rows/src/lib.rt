@@ -2,7 +2,11 @@
 #![tactic(auto)]
 
 #[cfg(test)]
+mod examples;
+
+#[cfg(test)]
 mod tests {
+    use crate::examples::{CONFLICT, ORDERS, PHANTOM};
     use ltx_outside::{Disk, Failed, MemDisk, MemSink, MemSource, Sink, Source};
     use ltx_text::decimals::put_decimal;
     use ltx_top::run;
@@ -187,6 +191,9 @@ mod tests {
         );
         assert!(rt; is_printed(alloc, A_ROW_CAME_AND_WENT, "order 2 3 1\ndurable 0\n")?);
         assert!(rt; is_printed(alloc, OWN_WRITES_AND_ESCAPES, "order 1\ndurable 0\n")?);
+        assert!(rt; is_printed(alloc, CONFLICT, "order 1 2 4\ndurable 0\n")?);
+        assert!(rt; is_printed(alloc, PHANTOM, "order 1 3 4\ndurable 0\n")?);
+        assert!(rt; is_printed(alloc, ORDERS, "order 1 2 3\ndurable 0\n")?);
         Ok(())
     }
 

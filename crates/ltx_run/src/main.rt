@@ -3,8 +3,10 @@
 #![tactic(auto)]
 
 mod devices;
+mod pages;
 
 use crate::devices::{StdinSource, StdoutSink};
+use crate::pages::page_for;
 use ltx_model::memory::NoMemory;
 use ltx_outside::MemDisk;
 use ltx_top::{Status, run};
@@ -24,7 +26,15 @@ fn words_of(rt: &HostRuntime) -> io::Result<Vec<String>> {
     Ok(words)
 }
 
-/// Carries out words.
+/// Prints a page. The status is 5 where standard output failed.
+fn print_page(rt: &HostRuntime, page: &str) -> u8 {
+    match print!(rt; "{page}") {
+        Ok(()) => 0,
+        Err(_) => 5,
+    }
+}
+
+/// Carries out words that ask for no page.
 fn carry_out(rt: &HostRuntime, words: &[String]) -> Result<Status, NoMemory> {
     let alloc = rt.alloc();
     let mut source = StdinSource::new(rt);
@@ -33,13 +43,21 @@ fn carry_out(rt: &HostRuntime, words: &[String]) -> Result<Status, NoMemory> {
     Ok(run(alloc, words, &mut source, &mut disk, &mut sink))
 }
 
+/// Prints the page for which the words ask, or carries them out. The exit status.
+fn answer(rt: &HostRuntime, words: &[String]) -> u8 {
+    if let Some(page) = page_for(words) {
+        return print_page(rt, page);
+    }
+    match carry_out(rt, words) {
+        Ok(status) => status.number,
+        Err(NoMemory) => 3,
+    }
+}
+
 /// The exit status. Words that are no text are no command.
 fn status(rt: &HostRuntime) -> u8 {
     match words_of(rt) {
-        Ok(words) => match carry_out(rt, &words) {
-            Ok(status) => status.number,
-            Err(NoMemory) => 3,
-        },
+        Ok(words) => answer(rt, &words),
         Err(error) => match error.kind() {
             ErrorKind::OutOfMemory => 3,
             _ => 2,

@@ -9,7 +9,8 @@ use Rattle.ltx_model.specs.declared.commands.Line.{Line}
 use Rattle.ltx_model.specs.declared.commands.Line.TheVariants as lines
 use Rattle.ltx_script.specs.Commands.{IsCommand, command_text}
 use Rattle.ltx_script.specs.Causes.{IsCause}
-use Rattle.ltx_script.specs.Lines.{words_of, is_word, command_at, said_at, most_bytes, reading, line_from, line_of, IfGood, IfBad}
+use Rattle.ltx_script.specs.Lines.{is_word, command_at, said_at, most_bytes, reading, line_from, line_of, IfGood, IfBad}
+use Rattle.ltx_text.specs.Cuts.{words_of}
 use Rattle.ltx_script.specs.Readers.{first_cause}
 use Rattle.ltx_script.proofs.Readings.{said_is, reading_is}
 use Rattle.ltx_script.proofs.Spelt.{words_true, spelt_again}
@@ -70,3 +71,8 @@ good_answer line word words command short parts said = is_answer line (Ok comman
 pub bad_answer : (line word : List ℕ) (words : List (List ℕ)) (cause first : Bad) → length line ≤ most_bytes → words_of line ≡ word ∷ words
     → command_at word words ≡ Err cause → first ≡ first_cause line cause → IsAnswer line (lines.Bad first)
 bad_answer line word words cause first short parts said is = is_answer line (Err first) (reads_bad line cause short (ap said_at parts ∙ said) ∙ ap (λ (c : Bad). Err c) (sym is))
+
+-- what is printed is read again
+pub read_back : (command : Command) → IsCommand command → line_of (command_text command) ≡ lines.Good command
+unfolding line_of
+read_back command fits = ap line_from (spelt_again (command_text command) command fits refl)

@@ -5,7 +5,7 @@ use Rattle.std.proofs.lemmas.List.Elements.{All-from_recursion}
 use Rattle.std.proofs.lemmas.List.Splits.{slice_split_none}
 use Rattle.ltx_text.specs.Words.{is_plain, is_visible}
 use Rattle.ltx_text.proofs.WordReadings.{both_true}
-use Rattle.ltx_script.specs.Lines.{cut_at, words_of}
+use Rattle.ltx_text.specs.Cuts.{cut_at, words_of}
 use Rattle.ltx_script.specs.Readers.{last_word}
 use Rattle.ltx_script.proofs.Parts.{no_space}
 

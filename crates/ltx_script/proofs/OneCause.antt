@@ -8,7 +8,8 @@ use Rattle.ltx_model.specs.declared.commands.Line.TheVariants as lines
 use Rattle.ltx_model.specs.declared.commands.Verb.TheVariants as verbs
 use Rattle.ltx_model.specs.Tables.{all_tables}
 use Rattle.ltx_script.specs.Causes.{Argument, ATable, AKey, ABound, AValue, AWrites, AReads, IsSpelling, IsFirstBad, forms_of, form_of, VerbCause, unknown, miscounted, misspelt, IsControl, IsSession, WordsCause, word_behind, no_session, silent, by_verb, IsCause, too_long, no_words, by_words}
-use Rattle.ltx_script.specs.Lines.{words_of, marked, unless_all, session_at, table_at, key_at, bound_at, value_at, writes_at, reads_at, alone, one_or_two, two, three, long_at, get_at, scan_at, put_at, del_at, verb_at, asked_at, ask_at, command_at, said_at, most_bytes, reading, line_from, line_of}
+use Rattle.ltx_script.specs.Lines.{marked, unless_all, session_at, table_at, key_at, bound_at, value_at, writes_at, reads_at, alone, one_or_two, two, three, long_at, get_at, scan_at, put_at, del_at, verb_at, asked_at, ask_at, command_at, said_at, most_bytes, reading, line_from, line_of}
+use Rattle.ltx_text.specs.Cuts.{words_of}
 use Rattle.ltx_text.proofs.WordReadings.{text_is, other_bytes}
 use Rattle.ltx_script.proofs.Readings.{value_is, marked_is, not_all, some_is}
 use Rattle.ltx_script.proofs.Refused.{no_table, a_table, no_key, a_key, no_bound, a_bound, no_value, no_writes, a_write, no_reads, fewer_more, one_more, two_more, three_more, not_session, a_session, unknown_verb}

@@ -1,4 +1,4 @@
--- Where a text is cut, and words read byte by byte.
+-- Words read byte by byte.
 use Rattle.std.proofs.Common.{◌≡◌, ℕ, ◌<◌, ◌≤◌, ◌+◌, Bool, true, false, ◌==◌, ◌&&◌, cond, List, [], ◌∷◌, length, get_or, take, drop, Some, None, Err, refl, sym, ap, ◌∙◌, arith, inl, inr}
 use Rattle.std.specs.Prelude.{nat_lt}
 use Rattle.std.specs.List.{list_all, onto_first, slice_split, position, position_or_len}
@@ -10,33 +10,8 @@ use Rattle.std.proofs.lemmas.List.Sums.{fails_before_first}
 use Rattle.std.proofs.lemmas.List.Splits.{slice_split-cons_no, slice_split-cons_yes, slice_split_none, slice_split_first}
 use Rattle.ltx_model.specs.declared.commands.Bad.TheVariants as causes
 use Rattle.ltx_text.specs.Words.{is_visible}
-use Rattle.ltx_script.specs.Lines.{alone, cut_at, words_of, is_word}
-
--- what is said of the first place, where there is none, and where there is one
-first_none : (first most : ℕ) → cond (nat_lt first most) (Some first) None ≡ None → most ≤ first
-first_none first most e = grind (arith, nat_tests)
-
-first_some : (first most i : ℕ) → cond (nat_lt first most) (Some first) None ≡ Some i → (first < most) × (first ≡ i)
-first_some first most i e = elim (cases_Bool (nat_lt first most)) [
-  | inl e1 ↦ let found : Some first ≡ Some i = (rw e1 at e) in (ltb-true first most e1, cc)
-  | inr e0 ↦ let none : None ≡ Some i = (rw e0 at e) in absurd cc
-]
-
--- a text is one part where the byte is not in it
-pub cut_whole : (byte : ℕ) (text : List ℕ) → position (λ b. b == byte) text ≡ None → cut_at byte text ≡ text ∷ []
-unfolding cut_at
-cut_whole byte text none =
-    let high = first_none (position_or_len (λ b. b == byte) text) (length text) none in
-    slice_split_none (λ b. b == byte) text (All-from_get_or (λ b. (b == byte) ≡ false) text 0 (λ i low. fails_before_first (λ b. b == byte) text i 0 (omega (arith, low, high))))
-
--- and its first part ends where the byte first stands
-pub cut_there : (byte : ℕ) (text : List ℕ) (i : ℕ) → position (λ b. b == byte) text ≡ Some i → cut_at byte text ≡ take i text ∷ cut_at byte (drop 1 (drop i text))
-unfolding cut_at
-cut_there byte text i found =
-    let first = first_some (position_or_len (λ b. b == byte) text) (length text) i found in
-    slice_split_first (λ b. b == byte) text 0 first.0
-    ∙ ap (λ n. take n text ∷ slice_split (λ b. b == byte) (drop (n + 1) text)) first.1
-    ∙ ap (λ (t : List ℕ). take i text ∷ slice_split (λ b. b == byte) t) (sym (drop-drop 1 i text))
+use Rattle.ltx_script.specs.Lines.{alone, is_word}
+use Rattle.ltx_text.specs.Cuts.{cut_at, words_of}
 
 -- a text has at least one part
 pub alone_more : {X : Type 0} (byte : ℕ) (text : List ℕ) (x : X) → alone (cut_at byte text) x ≡ Err causes.Words

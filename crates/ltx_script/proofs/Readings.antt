@@ -13,12 +13,14 @@ use Rattle.ltx_model.specs.declared.commands.Bad.{Bad}
 use Rattle.ltx_model.specs.declared.commands.Bad.TheVariants as causes
 use Rattle.ltx_model.specs.Tables.{all_tables}
 use Rattle.ltx_text.specs.Words.{word_of}
-use Rattle.ltx_text.specs.Decimals.{decimal_of}
-use Rattle.ltx_script.specs.Commands.{joined, set_text, writes_word, reads_words, verb_words, command_words, command_text, IsKey, IsBound, IsValue, IsVerb, IsCommand}
+use Rattle.ltx_text.specs.Decimals.{decimal_of, number_in}
+use Rattle.ltx_script.specs.Commands.{joined, set_text, writes_word, reads_words, verb_words, command_words, command_text, IsVerb, IsCommand}
+use Rattle.ltx_model.specs.Limits.{IsKey, IsBound, IsValue}
 use Rattle.ltx_text.specs.Readings.{bytes_of}
-use Rattle.ltx_script.specs.Lines.{words_of, is_word, number_in, within, unless_empty, marked, unless_all, ◌>>=◌, session_at, table_at, key_at, bound_at, value_at, writes_at, reads_at, alone, one_or_two, two, three, long_at, get_at, scan_at, put_at, del_at, verb_at, asked_at, ask_at, command_at, said_at, most_bytes, reading}
+use Rattle.ltx_script.specs.Lines.{is_word, within, unless_empty, marked, unless_all, ◌>>=◌, session_at, table_at, key_at, bound_at, value_at, writes_at, reads_at, alone, one_or_two, two, three, long_at, get_at, scan_at, put_at, del_at, verb_at, asked_at, ask_at, command_at, said_at, most_bytes, reading}
+use Rattle.ltx_text.specs.Cuts.{words_of}
 use Rattle.ltx_text.proofs.WordReadings.{IsWordOf, bytes_is, text_is}
-use Rattle.ltx_script.proofs.ValueLemmas.{number_is}
+use Rattle.ltx_text.proofs.Numbers.{number_is}
 use Rattle.ltx_script.proofs.SetTexts.{set_is, joined_parts}
 
 -- ---- steps
@@ -49,7 +51,7 @@ pub table_is : (word : List ℕ) (table : ℕ) → table_at word ≡ Ok table �
 table_is word table e = let n = number_is word 0 64 table (some_is (number_in 0 64 word) causes.Table table e) in (omega (arith, n.high), n.is)
 
 pub session_is : (word : List ℕ) (session : ℕ) → session_at word ≡ Ok session → (0 < session) × (session ≤ 1024) × (word ≡ decimal_of session)
-session_is word session e = let n = number_is word 1 1024 session (some_is (number_in 1 1024 word) causes.Session session e) in (omega (arith, n.low), omega (arith, n.high), n.is)
+session_is word session e = let n = number_is word 1 1025 session (some_is (number_in 1 1025 word) causes.Session session e) in (omega (arith, n.low), omega (arith, n.high), n.is)
 
 -- a byte string that is no longer than this
 record IsShortOf (word bytes : List ℕ) (most : ℕ) : Type 0 where

@@ -14,7 +14,9 @@ use Rattle.ltx_model.specs.Tables.{all_tables}
 use Rattle.ltx_script.specs.Commands.{set_text}
 use Rattle.ltx_script.specs.Causes.{Argument, ATable, AKey, ABound, AValue, AWrites, AReads, IsSpelling, forms_of, form_of, VerbCause, unknown, miscounted, misspelt, IsControl, IsSession, WordsCause, word_behind, no_session, silent, by_verb, IsCause, too_long, no_words, by_words}
 use Rattle.ltx_text.specs.Readings.{bytes_of}
-use Rattle.ltx_script.specs.Lines.{cut_at, words_of, is_word, number_in, within, unless_empty, marked, unless_all, ◌>>=◌, session_at, table_at, key_at, bound_at, value_at, writes_at, reads_at, alone, one_or_two, two, three, long_at, get_at, scan_at, put_at, del_at, verb_at, asked_at, ask_at, command_at, said_at, most_bytes, reading}
+use Rattle.ltx_script.specs.Lines.{is_word, within, unless_empty, marked, unless_all, ◌>>=◌, session_at, table_at, key_at, bound_at, value_at, writes_at, reads_at, alone, one_or_two, two, three, long_at, get_at, scan_at, put_at, del_at, verb_at, asked_at, ask_at, command_at, said_at, most_bytes, reading}
+use Rattle.ltx_text.specs.Cuts.{cut_at, words_of}
+use Rattle.ltx_text.specs.Decimals.{number_in}
 use Rattle.ltx_text.proofs.WordReadings.{text_is, same_bytes}
 use Rattle.ltx_script.proofs.SetTexts.{cut_is_some}
 use Rattle.ltx_script.proofs.Readings.{chosen, table_is, session_is, key_is, bound_is, writes_are}
@@ -241,7 +243,7 @@ more_words first [] command cause is e = absurd (no_ok command cause e)
 more_words first (second ∷ words) command cause is e = subst (WordsCause (first ∷ second ∷ words)) (err_is {A = Command} causes.Words cause e) (word_behind is)
 
 pub not_session : (word : List ℕ) (cause : Bad) → session_at word ≡ Err cause → (IsSession word → ⊥) × (causes.Session ≡ cause)
-not_session word cause e = (λ s. clash (session_at word) s.0 cause (ap session_at s.3 ∙ session_again s.0 s.1 s.2) e, none_cause (number_in 1 1024 word) causes.Session cause e)
+not_session word cause e = (λ s. clash (session_at word) s.0 cause (ap session_at s.3 ∙ session_again s.0 s.1 s.2) e, none_cause (number_in 1 1025 word) causes.Session cause e)
 
 pub a_session : (word : List ℕ) (session : ℕ) → session_at word ≡ Ok session → IsSession word
 a_session word session e = let is = session_is word session e in (session, is.0, is.1, is.2)

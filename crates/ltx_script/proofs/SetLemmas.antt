@@ -7,11 +7,10 @@ use Rattle.std.proofs.Math.Pow.{pow-lt}
 use Rattle.std.proofs.lemmas.Nat.Bits.{bit_at_or, bit_at-lt, bit_at-zero, bit_at-pow_same, bit_at-pow_other}
 use Rattle.ltx_model.specs.Tables.{has_table, with_table, no_tables}
 use Rattle.ltx_model.proofs.TableSets.{has-by-bit, lacks-by-bit, bit-by-has, bit-by-lacks, same_by_members}
-use Rattle.ltx_text.specs.Decimals.{decimal_of}
+use Rattle.ltx_text.specs.Decimals.{decimal_of, number_in}
 use Rattle.ltx_script.specs.Commands.{tables_of}
-use Rattle.ltx_script.specs.Lines.{number_in}
 use Rattle.ltx_script.specs.Rising.{IsRisingFrom}
-use Rattle.ltx_script.proofs.ValueLemmas.{number_is, number_some}
+use Rattle.ltx_text.proofs.Numbers.{number_is, number_some}
 
 -- ---- one table more
 

@@ -9,13 +9,14 @@ use Rattle.std.proofs.lemmas.List.Elements.{All-from_recursion}
 use Rattle.std.proofs.lemmas.List.Splits.{slice_split_at, slice_split_none, join_with_byte-slice_split}
 use Rattle.std.proofs.lemmas.Str.Parse.{digit_from_value}
 use Rattle.ltx_model.specs.Tables.{with_table, all_tables, no_tables}
-use Rattle.ltx_text.specs.Decimals.{decimal_of}
+use Rattle.ltx_text.specs.Decimals.{decimal_of, number_in}
 use Rattle.ltx_text.proofs.DecimalLemmas.{decimal_digits}
 use Rattle.ltx_script.specs.Commands.{commas, tables_of, tables_text, set_text}
-use Rattle.ltx_script.specs.Lines.{cut_at, number_in, named_tables, set_of}
+use Rattle.ltx_script.specs.Lines.{named_tables, set_of}
+use Rattle.ltx_text.specs.Cuts.{cut_at}
 use Rattle.ltx_script.specs.Rising.{IsRisingFrom}
 use Rattle.ltx_text.proofs.WordReadings.{same_bytes, other_bytes, text_is}
-use Rattle.ltx_script.proofs.ValueLemmas.{number_is, number_none, number_some}
+use Rattle.ltx_text.proofs.Numbers.{number_is, number_none, number_some}
 use Rattle.ltx_script.proofs.SetLemmas.{NoneFrom, none_in_none, none_from_more, none_with, none_so_far, with_fits, tables_with, tables_rise, same_tables}
 
 -- ---- cutting at commas

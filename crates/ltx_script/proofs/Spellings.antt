@@ -20,18 +20,6 @@ asked word (verbs.Do (Del table key)) = refl
 asked word verbs.Commit = refl
 asked word verbs.Abort = refl
 
--- a text that keeps a longer front keeps a shorter one
-pub front_of : (a b x : List ℕ) → take (length (a ++ b)) x ≡ a ++ b → take (length a) x ≡ a
-front_of [] b x e = refl
-front_of (y ∷ a) b [] e = cc
-front_of (y ∷ a) b (z ∷ x) e =
-    let heads : z ≡ y = cc in
-    let tails : take (length (a ++ b)) x ≡ a ++ b = cc in
-    λ i. heads i ∷ front_of a b x tails i
-
-pub kept_front : (old mid new more : List ℕ) → mid ≡ old ++ more → take (length mid) new ≡ mid → take (length old) new ≡ old
-kept_front old mid new more is kept = front_of old more new (subst (λ l. take (length l) new ≡ l) is kept)
-
 -- one number more, with its comma
 pub commas_more : (a n : ℕ) (ns : List ℕ) → commas (a ∷ ns ++ n ∷ []) ≡ commas (a ∷ ns) ++ 44 ∷ decimal_of n
 commas_more a n [] = refl

@@ -15,16 +15,19 @@ use Rattle.ltx_model.specs.declared.commands.Verb.TheVariants as verbs
 use Rattle.ltx_model.specs.declared.commands.Command.{Command}
 use Rattle.ltx_model.specs.declared.commands.Command.TheVariants as commands
 use Rattle.ltx_model.specs.Tables.{all_tables}
-use Rattle.ltx_text.specs.Words.{AreBytes, is_visible, byte_spelling, is_plain, spellings, word_of}
+use Rattle.ltx_text.specs.Words.{is_visible, byte_spelling, is_plain, spellings, word_of}
+use Rattle.ltx_model.specs.Limits.{AreBytes, IsKey, IsBound, IsValue}
 use Rattle.ltx_text.specs.Decimals.{decimal_of}
 use Rattle.ltx_text.proofs.DecimalLemmas.{decimal_digits, decimal_is_visible}
 use Rattle.ltx_text.proofs.WordLemmas.{word_is_some, word_is_visible, plain_spelling, escaped_spelling}
-use Rattle.ltx_script.specs.Commands.{joined, commas, tables_of, tables_text, set_text, writes_word, reads_words, verb_words, command_words, command_text, IsKey, IsBound, IsValue, IsVerb, IsCommand}
-use Rattle.ltx_script.specs.Lines.{cut_at, words_of, is_word, table_at, session_at, key_at, bound_at, value_at, writes_at, reads_at, one_or_two, two, three, long_at, get_at, scan_at, put_at, del_at, verb_at, asked_at, ask_at, command_at, said_at, most_bytes, reading}
+use Rattle.ltx_script.specs.Commands.{joined, commas, tables_of, tables_text, set_text, writes_word, reads_words, verb_words, command_words, command_text, IsVerb, IsCommand}
+use Rattle.ltx_script.specs.Lines.{is_word, table_at, session_at, key_at, bound_at, value_at, writes_at, reads_at, one_or_two, two, three, long_at, get_at, scan_at, put_at, del_at, verb_at, asked_at, ask_at, command_at, said_at, most_bytes, reading}
+use Rattle.ltx_text.specs.Cuts.{cut_at, words_of}
 use Rattle.ltx_script.specs.Rising.{IsRisingFrom}
 use Rattle.ltx_script.proofs.Parts.{no_space}
 use Rattle.ltx_text.proofs.WordReadings.{both_true, bytes_again, other_bytes}
-use Rattle.ltx_script.proofs.ValueLemmas.{number_some, key_some, bound_some, value_some}
+use Rattle.ltx_script.proofs.ValueLemmas.{key_some, bound_some, value_some}
+use Rattle.ltx_text.proofs.Numbers.{number_some}
 use Rattle.ltx_script.proofs.Readings.{ok_is}
 use Rattle.ltx_script.proofs.SetLemmas.{tables_rise}
 use Rattle.ltx_script.proofs.SetTexts.{set_again, all_text, is_all, other_text}
@@ -87,7 +90,7 @@ pub table_again : (table : ℕ) → table < 64 → table_at (decimal_of table) �
 table_again table low = rw (number_some (decimal_of table) 0 64 table (omega arith) (omega (arith, low)) (omega arith) refl) refl
 
 pub session_again : (session : ℕ) → 0 < session → session ≤ 1024 → session_at (decimal_of session) ≡ Ok session
-session_again session some low = rw (number_some (decimal_of session) 1 1024 session (omega (arith, some)) (omega (arith, low)) (omega arith) refl) refl
+session_again session some low = rw (number_some (decimal_of session) 1 1025 session (omega (arith, some)) (omega (arith, low)) (omega arith) refl) refl
 
 pub key_again : (key : List ℕ) → IsKey key → key_at (word_of key) ≡ Ok key
 key_again key is = key_some (word_of key) key (bytes_again (word_of key) key is.bytes refl) is.some is.short

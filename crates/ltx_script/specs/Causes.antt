@@ -6,8 +6,10 @@ use Rattle.ltx_model.specs.declared.commands.Bad.TheVariants as causes
 use Rattle.ltx_model.specs.Tables.{all_tables}
 use Rattle.ltx_text.specs.Words.{word_of}
 use Rattle.ltx_text.specs.Decimals.{decimal_of}
-use Rattle.ltx_script.specs.Commands.{set_text, IsKey, IsBound, IsValue}
-use Rattle.ltx_script.specs.Lines.{words_of, is_word, most_bytes}
+use Rattle.ltx_script.specs.Commands.{set_text}
+use Rattle.ltx_model.specs.Limits.{last_session, IsTable, IsKey, IsBound, IsValue}
+use Rattle.ltx_script.specs.Lines.{is_word, most_bytes}
+use Rattle.ltx_text.specs.Cuts.{words_of}
 
 -- what an argument of a verb is
 pub data Argument : Type 0 where
@@ -20,7 +22,7 @@ pub data Argument : Type 0 where
 
 -- the word spells such an argument
 abbrev pub IsSpelling : Argument → List ℕ → Type 0
-IsSpelling ATable word = (table : ℕ) × (table < 64) × (word ≡ decimal_of table)
+IsSpelling ATable word = (table : ℕ) × IsTable table × (word ≡ decimal_of table)
 IsSpelling AKey word = (key : List ℕ) × IsKey key × (word ≡ word_of key)
 IsSpelling ABound word = (bound : List ℕ) × IsBound bound × (word ≡ word_of bound)
 IsSpelling AValue word = (value : List ℕ) × IsValue value × (word ≡ word_of value)
@@ -82,7 +84,7 @@ IsControl word = (word ≡ codes "epoch") ⊎ ((word ≡ codes "flush") ⊎ (wor
 
 -- the number of a session
 abbrev pub IsSession : List ℕ → Type 0
-IsSession word = (session : ℕ) × (0 < session) × (session ≤ 1024) × (word ≡ decimal_of session)
+IsSession word = (session : ℕ) × (0 < session) × (session ≤ last_session) × (word ≡ decimal_of session)
 
 -- why words are no command: a word behind `epoch`, `flush` or `prune`; no session; no verb; what the verb lacks
 pub data WordsCause : List (List ℕ) → Bad → Type 0 where

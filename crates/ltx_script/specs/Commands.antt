@@ -1,5 +1,5 @@
 -- The spelling of each command: words of visible bytes with one space between two.
-use Rattle.std.specs.Prelude.{ℕ, ◌<◌, ◌≤◌, ◌^◌, ◌==◌, if◌then◌else◌, List, [], ◌∷◌, ◌++◌, length, filter, map, codes}
+use Rattle.std.specs.Prelude.{ℕ, ◌<◌, ◌≤◌, ◌^◌, ◌==◌, if◌then◌else◌, List, [], ◌∷◌, ◌++◌, filter, map, codes}
 use Rattle.std.specs.List.{range_with_len, join_with_byte}
 use Rattle.ltx_model.specs.declared.commands.Op.{Op}
 use Rattle.ltx_model.specs.declared.commands.Op.TheVariants.{Get, Scan, Put, Del}
@@ -8,7 +8,8 @@ use Rattle.ltx_model.specs.declared.commands.Verb.TheVariants as verbs
 use Rattle.ltx_model.specs.declared.commands.Command.{Command}
 use Rattle.ltx_model.specs.declared.commands.Command.TheVariants as commands
 use Rattle.ltx_model.specs.Tables.{has_table, all_tables}
-use Rattle.ltx_text.specs.Words.{AreBytes, word_of}
+use Rattle.ltx_text.specs.Words.{word_of}
+use Rattle.ltx_model.specs.Limits.{last_session, IsTable, IsKey, IsBound, IsValue}
 use Rattle.ltx_text.specs.Decimals.{decimal_of}
 
 -- words with one space between two
@@ -66,28 +67,12 @@ command_words (commands.Ask session verb) = decimal_of session ∷ verb_words ve
 unfoldable pub command_text : Command → List ℕ
 command_text command = joined (command_words command)
 
--- a key of a row: 1 to 64 bytes
-pub record IsKey (key : List ℕ) : Type 0 where
-  pub some : 0 < length key
-  pub short : length key ≤ 64
-  pub bytes : AreBytes key
-
--- an end of a scan: 0 to 64 bytes
-pub record IsBound (bound : List ℕ) : Type 0 where
-  pub short : length bound ≤ 64
-  pub bytes : AreBytes bound
-
--- a value of a row: 0 to 1,024 bytes
-pub record IsValue (value : List ℕ) : Type 0 where
-  pub short : length value ≤ 1024
-  pub bytes : AreBytes value
-
 -- an operation on one of the 64 tables, its parts within their limits
 abbrev pub IsOperation : Op → Type 0
-IsOperation (Get table key) = (table < 64) × IsKey key
-IsOperation (Scan table low high) = (table < 64) × IsBound low × IsBound high
-IsOperation (Put table key value) = (table < 64) × IsKey key × IsValue value
-IsOperation (Del table key) = (table < 64) × IsKey key
+IsOperation (Get table key) = IsTable table × IsKey key
+IsOperation (Scan table low high) = IsTable table × IsBound low × IsBound high
+IsOperation (Put table key value) = IsTable table × IsKey key × IsValue value
+IsOperation (Del table key) = IsTable table × IsKey key
 
 -- a verb whose parts are within their limits
 abbrev pub IsVerb : Verb → Type 0
@@ -95,7 +80,7 @@ IsVerb (verbs.Long writes reads) = (writes < 2 ^ 64) × (reads < 2 ^ 64)
 IsVerb (verbs.Do op) = IsOperation op
 IsVerb verb = Unit {0}
 
--- a command whose parts are within their limits: sessions are numbered from 1 to 1,024
+-- a command whose parts are within their limits
 abbrev pub IsCommand : Command → Type 0
-IsCommand (commands.Ask session verb) = (0 < session) × (session ≤ 1024) × IsVerb verb
+IsCommand (commands.Ask session verb) = (0 < session) × (session ≤ last_session) × IsVerb verb
 IsCommand command = Unit {0}

@@ -1,6 +1,6 @@
 -- Reading a line: the command with this spelling, or the first cause why there is none.
-use Rattle.std.specs.Prelude.{◌≡◌, ℕ, Bool, ◌==◌, ◌&&◌, nat_lt, if◌then◌else◌, List, [], ◌∷◌, length, take, drop, Option, Some, None, Result, Ok, Err, ok_or, find, filter_map, fold, codes, bytes_eq}
-use Rattle.std.specs.List.{range_with_len, slice_split, list_all}
+use Rattle.std.specs.Prelude.{◌≡◌, ℕ, ◌+◌, Bool, ◌==◌, ◌&&◌, nat_lt, if◌then◌else◌, List, [], ◌∷◌, length, take, drop, Option, Some, None, Result, Ok, Err, ok_or, filter_map, fold, codes, bytes_eq}
+use Rattle.std.specs.List.{list_all}
 use Rattle.ltx_model.specs.declared.commands.Op.TheVariants.{Get, Scan, Put, Del}
 use Rattle.ltx_model.specs.declared.commands.Verb.{Verb}
 use Rattle.ltx_model.specs.declared.commands.Verb.TheVariants as verbs
@@ -10,40 +10,21 @@ use Rattle.ltx_model.specs.declared.commands.Bad.{Bad}
 use Rattle.ltx_model.specs.declared.commands.Bad.TheVariants as causes
 use Rattle.ltx_model.specs.declared.commands.Line.{Line}
 use Rattle.ltx_model.specs.declared.commands.Line.TheVariants as lines
+use Rattle.ltx_model.specs.Limits.{table_count, last_session, key_limit, bound_limit, value_limit}
 use Rattle.ltx_model.specs.Tables.{all_tables, no_tables, with_table}
 use Rattle.ltx_text.specs.Readings.{bytes_of}
 use Rattle.ltx_text.specs.Words.{is_visible}
-use Rattle.ltx_text.specs.Decimals.{decimal_of}
+use Rattle.ltx_text.specs.Cuts.{cut_at, words_of}
+use Rattle.ltx_text.specs.Decimals.{number_in}
 use Rattle.ltx_script.specs.Commands.{set_text}
 
 -- ---- words
-
--- the parts of a text between the bytes at which it is cut
-unfoldable pub cut_at : ℕ → List ℕ → List (List ℕ)
-cut_at byte text = slice_split (λ b. b == byte) text
-
--- the words of a line: the parts between its spaces
-abbrev pub words_of : List ℕ → List (List ℕ)
-words_of line = cut_at 32 line
-
--- the parts of what stands behind such a byte, if there is one
-abbrev pub parts_after : ℕ → Option (List ℕ) → List (List ℕ)
-parts_after byte None = []
-parts_after byte (Some text) = cut_at byte text
-
--- the words of what stands behind a space
-abbrev pub words_after : Option (List ℕ) → List (List ℕ)
-words_after rest = parts_after 32 rest
 
 -- a word is one or more visible bytes
 abbrev pub is_word : List ℕ → Bool
 is_word word = nat_lt 0 (length word) && list_all is_visible word
 
 -- ---- values and their spellings
-
--- the number with this decimal, of so many from the first on
-unfoldable pub number_in : ℕ → ℕ → List ℕ → Option ℕ
-number_in first count word = find (λ n. bytes_eq (decimal_of n) word) (range_with_len first count)
 
 -- a byte string, where it is no longer than this
 abbrev pub within : ℕ → Option (List ℕ) → Option (List ℕ)
@@ -58,7 +39,7 @@ unless_empty (Some (b ∷ bytes)) = Some (b ∷ bytes)
 
 -- the set of the tables that are named between commas
 abbrev pub named_tables : List ℕ → ℕ
-named_tables text = fold with_table no_tables (filter_map (number_in 0 64) (cut_at 44 text))
+named_tables text = fold with_table no_tables (filter_map (number_in 0 table_count) (cut_at 44 text))
 
 -- the set of tables with this spelling
 unfoldable pub set_of : List ℕ → Option ℕ
@@ -85,19 +66,19 @@ abbrev pub ◌>>=◌ : {A B : Type 0} → Result A Bad → (A → Result B Bad) 
 (Err cause) >>= f = Err cause
 
 abbrev pub session_at : List ℕ → Result ℕ Bad
-session_at word = ok_or (number_in 1 1024 word) causes.Session
+session_at word = ok_or (number_in 1 (last_session + 1) word) causes.Session
 
 abbrev pub table_at : List ℕ → Result ℕ Bad
-table_at word = ok_or (number_in 0 64 word) causes.Table
+table_at word = ok_or (number_in 0 table_count word) causes.Table
 
 abbrev pub key_at : List ℕ → Result (List ℕ) Bad
-key_at word = ok_or (unless_empty (within 64 (bytes_of word))) causes.Key
+key_at word = ok_or (unless_empty (within key_limit (bytes_of word))) causes.Key
 
 abbrev pub bound_at : List ℕ → Result (List ℕ) Bad
-bound_at word = ok_or (within 64 (bytes_of word)) causes.Key
+bound_at word = ok_or (within bound_limit (bytes_of word)) causes.Key
 
 abbrev pub value_at : List ℕ → Result (List ℕ) Bad
-value_at word = ok_or (within 1024 (bytes_of word)) causes.Value
+value_at word = ok_or (within value_limit (bytes_of word)) causes.Value
 
 -- the area that a batch writes
 abbrev pub writes_at : List ℕ → Result ℕ Bad

@@ -6,7 +6,8 @@ use Rattle.ltx_model.specs.declared.commands.Bad.TheVariants as causes
 use Rattle.ltx_model.specs.declared.commands.Command.{Command}
 use Rattle.ltx_model.specs.declared.commands.Command.TheVariants as commands
 use Rattle.ltx_model.specs.declared.commands.Verb.{Verb}
-use Rattle.ltx_script.specs.Lines.{◌>>=◌, words_of, is_word, next_word, alone}
+use Rattle.ltx_script.specs.Lines.{◌>>=◌, is_word, next_word, alone}
+use Rattle.ltx_text.specs.Cuts.{words_of}
 use Rattle.ltx_script.specs.declared.refusal.Refusal.{Refusal}
 use Rattle.ltx_script.specs.declared.refusal.Refusal.TheVariants as refusals
 

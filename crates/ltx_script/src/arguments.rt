@@ -1,44 +1,28 @@
 //! The arguments of a verb, each from its word, with the cause where the word is no spelling.
 
 ghost use Rattle.std.specs.Prelude.{◌≡◌, ◌<◌, ◌≤◌, ◌+◌, ◌^◌, ◌≢◌, ℕ, List, map, Option, Some, None, IfSome, IfNone, option_copied};
-ghost use Rattle.ltx_text.specs.Decimals.{decimal_of};
+ghost use Rattle.ltx_text.specs.Decimals.{decimal_of, number_in};
 ghost use Rattle.ltx_script.specs.Commands.{tables_of};
 ghost use Rattle.ltx_script.specs.Rising.{IsRisingFrom};
-ghost use Rattle.ltx_script.specs.Lines.{cut_at, number_in, set_of, session_at, table_at, key_at, bound_at, value_at, writes_at, reads_at};
+ghost use Rattle.ltx_script.specs.Lines.{set_of, session_at, table_at, key_at, bound_at, value_at, writes_at, reads_at};
+ghost use Rattle.ltx_text.specs.Cuts.{cut_at};
 ghost use Rattle.ltx_script.specs.Readers.{Gives};
 
-use crate::cuts::cut;
 use crate::refusal::Refusal;
 use ltx_model::bytes::{Bound, Key, Value};
 use ltx_model::commands::Bad;
 use ltx_model::numbers::{Session, Table};
 use ltx_model::tables::TableSet;
-use ltx_text::decimals::decimal;
+use ltx_text::cuts::cut;
+use ltx_text::decimals::number_in;
 use ltx_text::words::decode_word;
 use std::alloc::Global;
-
-/// The number with this decimal, of so many from the first on.
-fn number_in(word: &[u8], first: u16, count: u16) -> Option<u64>
-    ensures value { result ≡ number_in first count word.now }
-    ensures range { IfSome result (λ n. (first ≤ n) × (n < first + count)) }
-{
-    let n = decimal(word)?;
-    let first = u64::from(first);
-    if n < first {
-        return None;
-    }
-    if n - first < u64::from(count) {
-        Some(n)
-    } else {
-        None
-    }
-}
 
 /// The session with this number, from 1 to 1,024.
 pub(crate) fn session_of(word: &[u8]) -> Result<Session, Refusal>
     ensures { Gives (λ session. session) result (session_at word.now) }
 {
-    let Some(n) = number_in(word, 1, Session::LAST) else {
+    let Some(n) = number_in(word, 1, u64::from(Session::LAST) + 1) else {
         return Err(Refusal::Cause(Bad::Session));
     };
     match Session::new(n as u16) {
@@ -51,7 +35,7 @@ pub(crate) fn session_of(word: &[u8]) -> Result<Session, Refusal>
 fn named_table(word: &[u8]) -> Option<Table>
     ensures { result ≡ number_in 0 64 word.now }
 {
-    let n = number_in(word, 0, u16::from(Table::COUNT))?;
+    let n = number_in(word, 0, u64::from(Table::COUNT))?;
     Table::new(n as u8)
 }
 

@@ -1,36 +1,16 @@
-//! Cutting a line at its spaces, and a set of tables at its commas, without a copy.
+//! The words of a line, one after another, without a copy.
 
 ghost use Rattle.std.specs.Prelude.{◌≡◌, ◌<◌, ◌==◌, ◌&&◌, length, ◌∷◌, Option, Some, None, MatchOption, option_copied};
 ghost use Rattle.std.specs.List.{list_all, position};
 ghost use Rattle.ltx_text.specs.Words.{is_visible};
-ghost use Rattle.ltx_script.specs.Lines.{cut_at, parts_after, words_of, words_after, is_word, alone, next_word, at_most_one, one_or_two, two, three};
+ghost use Rattle.ltx_script.specs.Lines.{is_word, alone, next_word, at_most_one, one_or_two, two, three};
+ghost use Rattle.ltx_text.specs.Cuts.{cut_at, parts_after, words_of, words_after};
 ghost use Rattle.ltx_script.specs.Readers.{Gives, last_word};
 
 use crate::refusal::Refusal;
 use ltx_model::commands::{Bad, Command};
+use ltx_text::cuts::cut;
 use ltx_text::words::are_plain;
-
-/// The place of the first such byte. A word is a few bytes long, so this loop costs less than a call of `memchr`.
-fn position_of(text: &[u8], at: u8) -> Option<usize>
-    ensures { result ≡ position (λ byte. byte == at) text.now }
-{
-    text.iter().position(|byte| *byte == at)
-}
-
-/// The text up to the first such byte, and the text behind it, if it is there.
-pub(crate) fn cut(text: &[u8], at: u8) -> (&[u8], Option<&[u8]>)
-    ensures parts { cut_at at text.now ≡ result.0.now ∷ parts_after at (option_copied result.1) }
-    ensures shorter { MatchOption result.1 (result.0.now ≡ text.now) (λ rest. length rest.now < length text.now) }
-{
-    match position_of(text, at) {
-        None => (text, None),
-        Some(i) => {
-            let (front, rest) = text.split_at(i);
-            let (_, after) = rest.split_at(1);
-            (front, Some(after))
-        }
-    }
-}
 
 /// Whether the byte is visible.
 fn is_visible(byte: u8) -> bool

@@ -3,11 +3,11 @@
 
 mod arguments;
 mod cuts;
-pub mod limits;
+mod limits;
 pub mod parse;
-mod pieces;
 pub mod print;
 mod refusal;
+mod sets;
 mod verbs;
 
 #[cfg(test)]

@@ -2,7 +2,8 @@
 //! spellings of commands within their limits is said of every command.
 
 ghost use Rattle.std.specs.Prelude.{◌<◌, ◌^◌};
-ghost use Rattle.ltx_script.specs.Commands.{IsBound, IsCommand, IsKey, IsOperation, IsValue, IsVerb};
+ghost use Rattle.ltx_script.specs.Commands.{IsCommand, IsOperation, IsVerb};
+ghost use Rattle.ltx_model.specs.Limits.{IsBound, IsKey, IsTable, IsValue};
 
 use ltx_model::bytes::{Bound, Key, Value};
 use ltx_model::commands::{Command, Op, Verb};
@@ -10,9 +11,9 @@ use ltx_model::numbers::Table;
 use ltx_model::tables::TableSet;
 use ltx_text::words::are_bytes;
 
-/// There are 64 tables.
+/// A table has one of the numbers of tables.
 fn table(table: Table)
-    ensures { table < 64 }
+    ensures { IsTable table }
 {
     let _ = table.number();
 }
@@ -26,21 +27,21 @@ fn set(set: TableSet)
     }
 }
 
-/// A key is 1 to 64 bytes.
+/// A key is within its limits.
 fn key(key: &Key)
     ensures { IsKey key.now }
 {
     are_bytes(key.bytes());
 }
 
-/// An end of a scan is 0 to 64 bytes.
+/// An end of a scan is within its limit.
 fn bound(bound: &Bound)
     ensures { IsBound bound.now }
 {
     are_bytes(bound.bytes());
 }
 
-/// A value is 0 to 1,024 bytes.
+/// A value is within its limit.
 fn value(value: &Value)
     ensures { IsValue value.now }
 {
@@ -92,7 +93,7 @@ fn verb(verb: &Verb)
 }
 
 /// That the parts of the command are within their limits.
-pub fn is_within_limits(command: &Command)
+pub(crate) fn is_within_limits(command: &Command)
     ensures { IsCommand command.now }
 {
     if let Command::Ask(session, asked) = command {

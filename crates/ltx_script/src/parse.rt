@@ -6,15 +6,17 @@ ghost use Rattle.ltx_model.specs.declared.commands.Line.TheVariants.{Good};
 ghost use Rattle.ltx_model.specs.declared.commands.Bad.{Bad};
 ghost use Rattle.ltx_script.specs.Commands.{IsCommand, command_text};
 ghost use Rattle.ltx_script.specs.Causes.{IsCause};
-ghost use Rattle.ltx_script.specs.Lines.{words_after, ask_at, command_at, most_bytes, line_of, SaysBad, IfGood, IfBad};
+ghost use Rattle.ltx_script.specs.Lines.{ask_at, command_at, most_bytes, line_of, SaysBad, IfGood, IfBad};
+ghost use Rattle.ltx_text.specs.Cuts.{words_after};
 ghost use Rattle.ltx_script.specs.Readers.{Gives, first_cause};
 
 use crate::arguments::session_of;
-use crate::cuts::{alone_as, are_words, cut};
+use crate::cuts::{alone_as, are_words};
 use crate::refusal::Refusal;
 use crate::verbs::asked_of;
 use ltx_model::commands::{Bad, Command, Line};
 use ltx_model::memory::NoMemory;
+use ltx_text::cuts::cut;
 use std::alloc::Global;
 
 /// The most bytes of a line.

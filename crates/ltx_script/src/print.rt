@@ -1,13 +1,17 @@
 //! Printing a command: its words, with one space between two.
 
 ghost use Rattle.std.specs.Prelude.{◌≡◌, ◌++◌, length, take, OnOk, OnErr, ◌∷◌, codes};
+ghost use Rattle.ltx_model.specs.declared.commands.Line.TheVariants.{Good};
+ghost use Rattle.ltx_script.specs.Lines.{line_of};
 ghost use Rattle.ltx_script.specs.Commands.{joined, set_text, reads_words, operation_words, verb_words, command_text};
 
-use crate::pieces::{put_bytes, put_number, put_set, put_text};
+use crate::limits::is_within_limits;
+use crate::sets::put_set;
 use ltx_model::commands::{Command, Op, Verb};
 use ltx_model::memory::NoMemory;
 use ltx_model::tables::TableSet;
 use ltx_text::decimals::put_decimal;
+use ltx_text::print::{or_taken_back, put_bytes, put_number, put_text};
 
 /// Appends the words of an operation.
 fn put_operation(op: &Op, out: &mut Vec<u8>) -> Result<(), NoMemory>
@@ -87,14 +91,15 @@ fn put_command(command: &Command, out: &mut Vec<u8>) -> Result<(), NoMemory>
 }
 
 /// Appends the command's spelling to `out`. Each command has one spelling. Without memory `out` stays as it was.
+#[tactic(auto, using(crate::proofs::Answered::read_back))]
 pub fn print_command(command: &Command, out: &mut Vec<u8>) -> Result<(), NoMemory>
     ensures ok { OnOk result (out.new.items ≡ out.old.items ++ command_text command.now) }
     ensures err { OnErr result (out.new.items ≡ out.old.items) }
+    // What is printed is read as this command.
+    ensures again { line_of (command_text command.now) ≡ Good command.now }
 {
     let start = out.len();
+    is_within_limits(command);
     let done = put_command(command, out);
-    if done.is_err() {
-        out.truncate(start);
-    }
-    done
+    or_taken_back(done, start, out)
 }

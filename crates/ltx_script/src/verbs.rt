@@ -2,14 +2,16 @@
 //! in place: it is 72 bytes, which each `Result` on its way would copy. After a refusal it may be any command.
 
 ghost use Rattle.std.specs.Prelude.{Option, option_copied};
-ghost use Rattle.ltx_script.specs.Lines.{words_after, alone, long_at, get_at, scan_at, put_at, del_at, verb_at, asked_at};
+ghost use Rattle.ltx_script.specs.Lines.{alone, long_at, get_at, scan_at, put_at, del_at, verb_at, asked_at};
+ghost use Rattle.ltx_text.specs.Cuts.{words_after};
 ghost use Rattle.ltx_script.specs.Readers.{Gives, asked};
 
 use crate::arguments::{bound_of, key_of, reads_of, table_of, value_of, writes_of};
-use crate::cuts::{alone_as, cut, one_or_two, three, two};
+use crate::cuts::{alone_as, one_or_two, three, two};
 use crate::refusal::Refusal;
 use ltx_model::commands::{Bad, Command, Op, Verb};
 use ltx_model::numbers::Session;
+use ltx_text::cuts::cut;
 use std::alloc::Global;
 
 /// A verb that stands alone.

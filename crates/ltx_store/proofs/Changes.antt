@@ -14,7 +14,7 @@ use Rattle.ltx_chain.specs.declared.chain.Version.{Version}
 use Rattle.ltx_chain.specs.Versions.{Versions, AreBelow, latest, visible, is_at_most}
 use Rattle.ltx_chain.proofs.Seen.{latest-append, visible-append, visible_latest}
 use Rattle.ltx_store.specs.Kept.{Kept, cell_of_kept, kept_at, chain_at, items_of, room_of, installed, versions_at, room_at, row_of_version, row_by, rows_by, rows_at, latest_rows, rows_with, row_of_write, with_version, HasSameVersions, HasLoaded, AreUpTo}
-use Rattle.ltx_store.proofs.Order.{same_cell_is, cell_itself}
+use Rattle.ltx_model.proofs.CellOrder.{same_cell_same, cell_itself}
 use Rattle.ltx_store.proofs.Rows.{row_at-rows, rows_rising, rows-put, rows_with_same, kept_at-put, found_cell}
 
 module _ (see : List Version → Option Version) (blind : see [] ≡ None) where
@@ -69,11 +69,11 @@ same_put e kept r items room = record {
   marks = λ m all. up_to_put m e kept (subst (AllByRecursion (λ v. v.mark ≤ m)) (sym items) (up_to_items m kept (cell_of_kept e) all)) all;
 } where
   items_by : (q : Cell) (b : Bool) → same_cell (cell_of_kept e) q ≡ b → items_of (cond b (Some e.versions) (chain_at kept q)) ≡ versions_at kept q
-  items_by q true same = items ∙ ap (versions_at kept) (same_cell_is (cell_of_kept e) q same)
+  items_by q true same = items ∙ ap (versions_at kept) (same_cell_same (cell_of_kept e) q same)
   items_by q false same = refl
 
   room_by : (q : Cell) (b : Bool) → same_cell (cell_of_kept e) q ≡ b → room_at kept q ≤ room_of (cond b (Some e.versions) (chain_at kept q))
-  room_by q true same = subst (λ d. room_at kept d ≤ e.versions.room) (same_cell_is (cell_of_kept e) q same) room
+  room_by q true same = subst (λ d. room_at kept d ≤ e.versions.room) (same_cell_same (cell_of_kept e) q same) room
   room_by q false same = omega arith
 
 pub same_itself : (kept : List Kept) → HasSameVersions kept kept

@@ -9,4 +9,3 @@ pub mod Rows
 pub mod ScanSteps
 pub mod Scans
 pub mod Tables
-pub mod Walks

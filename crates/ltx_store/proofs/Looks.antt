@@ -12,8 +12,8 @@ use Rattle.ltx_chain.specs.Versions.{visible}
 use Rattle.ltx_store.specs.Kept.{Kept, cell_of_kept, kept_at, items_of, versions_at, row_put, row_of_version, rows_by}
 use Rattle.ltx_store.specs.Latest.{putter}
 use Rattle.ltx_store.specs.Scans.{is_between, look_of_version, look_at, looks_between}
-use Rattle.ltx_store.proofs.Order.{same_cell_is, above_same}
-use Rattle.ltx_store.proofs.Rows.{find_above}
+use Rattle.ltx_model.proofs.CellOrder.{same_cell_same}
+use Rattle.ltx_model.proofs.Rising.{above_same, item_at-above}
 use Rattle.ltx_store.proofs.Changes.{row_of_seen}
 
 -- the writer of the row that a version makes
@@ -106,7 +106,7 @@ module _ (table mark : ℕ) (low high key : List ℕ) where
 
   none_above : (c : Cell) (es : List Kept) → c ≡ record { table = table; key = key } → AreAbove cell_of_kept c es → seen_look es ≡ None
   none_above c es same all =
-      ap (λ o. cond (in_range low high key) (look_of_version key (visible mark (items_of (option_map (λ (k : Kept). k.versions) o)))) None) (find_above cell_of_kept (record { table = table; key = key }) es (above_same cell_of_kept _ c es (sym same) all))
+      ap (λ o. cond (in_range low high key) (look_of_version key (visible mark (items_of (option_map (λ (k : Kept). k.versions) o)))) None) (item_at-above cell_of_kept (record { table = table; key = key }) es (above_same cell_of_kept _ c es (sym same) all))
       ∙ no_look (in_range low high key)
 
 module _ (table mark : ℕ) (low high key : List ℕ) where
@@ -117,12 +117,12 @@ module _ (table mark : ℕ) (low high key : List ℕ) where
       ≡ cond (in_range low high key) (look_of_version key (visible mark (items_of (option_map (λ (k : Kept). k.versions) (cond q (Some e) (kept_at es (record { table = table; key = key }))))))) None
   look_by e es false false inside same above rest = rest
   look_by e es false true inside same above rest =
-      let here : cell_of_kept e ≡ record { table = table; key = key } = same_cell_is (cell_of_kept e) (record { table = table; key = key }) same in
+      let here : cell_of_kept e ≡ record { table = table; key = key } = same_cell_same (cell_of_kept e) (record { table = table; key = key }) same in
       let out : in_range low high key ≡ false = right_false table mark low high (e.table == table) (in_range low high key) (subst (λ (c : Cell). ((e.table == table) && in_range low high c.key) ≡ false) here inside) (same_number table mark low high e.table table (ap (λ (c : Cell). c.table) here)) in
       rest ∙ none_above table mark low high key (cell_of_kept e) es here above ∙ rw out refl
   look_by e es true q inside same above rest = by_look (look_at mark e) refl q same where
     key_is : same_cell (cell_of_kept e) (record { table = table; key = key }) ≡ true → e.key ≡ key
-    key_is is = ap (λ (c : Cell). c.key) (same_cell_is (cell_of_kept e) (record { table = table; key = key }) is)
+    key_is is = ap (λ (c : Cell). c.key) (same_cell_same (cell_of_kept e) (record { table = table; key = key }) is)
 
     stands : (l : Look) → look_at mark e ≡ Some l → cell_of_look table l ≡ cell_of_kept e
     stands l is = ap (λ k. let d : Cell = record { table = table; key = k } in d) (look_keeps table mark low high e.key (visible mark e.versions.items) l is) ∙ sym (in_table table mark low high e inside)
@@ -132,7 +132,7 @@ module _ (table mark : ℕ) (low high key : List ℕ) where
     by_look None is false apart = rest
     by_look None is true apart =
         let none : look_of_version key (visible mark e.versions.items) ≡ None = subst (λ k. look_of_version k (visible mark e.versions.items) ≡ None) (key_is apart) is in
-        rest ∙ none_above table mark low high key (cell_of_kept e) es (same_cell_is (cell_of_kept e) (record { table = table; key = key }) apart) above ∙ rw none (sym (no_look table mark low high key (in_range low high key)))
+        rest ∙ none_above table mark low high key (cell_of_kept e) es (same_cell_same (cell_of_kept e) (record { table = table; key = key }) apart) above ∙ rw none (sym (no_look table mark low high key (in_range low high key)))
     by_look (Some l) is false apart =
         subst (λ c. cond (same_cell c (record { table = table; key = key })) (Some l) (of_key table mark low high key (looks_between mark es table low high)) ≡ goal_by table mark low high key e es false) (sym (stands l is)) (rw apart rest)
     by_look (Some l) is true apart =

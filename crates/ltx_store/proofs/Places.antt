@@ -1,7 +1,7 @@
 -- A table in its place among all, and what is kept after it changed.
 use Rattle.std.proofs.Common.{◌≡◌, ℕ, zero, suc, ◌+◌, ◌<◌, ◌≤◌, List, [], ◌∷◌, ◌++◌, length, Some, Result, Ok, Err, refl, sym, ap, ◌∙◌, subst, arith, slice_set, get_or}
 use Rattle.std.proofs.lemmas.List.{set-get_or, length-set}
-use Rattle.ltx_store.proofs.Order.{cell_itself}
+use Rattle.ltx_model.proofs.CellOrder.{cell_itself}
 use Rattle.std.specs.List.{AllByRecursion}
 use Rattle.std.specs.List.Sorted.{IsStrictlySortedBy}
 use Rattle.std.specs.Result.{OnOk, OnErr}

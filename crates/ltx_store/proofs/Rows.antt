@@ -9,7 +9,8 @@ use Rattle.ltx_model.specs.StoredRows.{cell_of, row_at}
 use Rattle.ltx_model.specs.Rows.{without}
 use Rattle.ltx_chain.specs.declared.chain.Version.{Version}
 use Rattle.ltx_store.specs.Kept.{Kept, cell_of_kept, kept_at, row_put, row_of_version, row_by, rows_by, rows_with}
-use Rattle.ltx_store.proofs.Order.{tied_cells, cell_itself, turned, same_cell_is, above_lower, above_same}
+use Rattle.ltx_model.proofs.CellOrder.{same_cells, cell_itself, cell_turned, same_cell_same}
+use Rattle.ltx_model.proofs.Rising.{above_later, above_same}
 
 -- a row stands at its key
 put_keeps : (c : Cell) (writer : ℕ) (p : Option (List ℕ)) (row : StoredRow) → row_put c writer p ≡ Some row → cell_of row ≡ c
@@ -50,18 +51,18 @@ put_above cell x (y ∷ ys) all = rw all.0 refl
 
 without_above : (c : Cell) (rows : List StoredRow) → AreAbove cell_of c rows → without rows c ≡ rows
 without_above c [] all = refl
-without_above c (y ∷ ys) all = rw (turned c (cell_of y) Less all.0) (ap (λ l. y ∷ l) (without_above c ys all.1))
+without_above c (y ∷ ys) all = rw (cell_turned c (cell_of y) Less all.0) (ap (λ l. y ∷ l) (without_above c ys all.1))
 
 pub find_above : {A : Type 0} (cell : A → Cell) (c : Cell) (xs : List A) → AreAbove cell c xs → find (λ x. same_cell (cell x) c) xs ≡ None
 find_above cell c [] all = refl
-find_above cell c (y ∷ ys) all = rw (turned c (cell y) Less all.0) (find_above cell c ys all.1)
+find_above cell c (y ∷ ys) all = rw (cell_turned c (cell y) Less all.0) (find_above cell c ys all.1)
 
 -- the row of a key
 module _ (see : List Version → Option Version) where
   row_by_both : (e : Kept) (es : List Kept) (c : Cell) (o : Option StoredRow) (b : Bool) → AreAbove cell_of_kept (cell_of_kept e) es → row_by see e ≡ o → same_cell (cell_of_kept e) c ≡ b
       → row_at (rows_by see es) c ≡ option_and_then (row_by see) (kept_at es c)
       → row_at (cons_option o (rows_by see es)) c ≡ option_and_then (row_by see) (cond b (Some e) (kept_at es c))
-  row_by_both e es c None true all row same rest = find_above cell_of c (rows_by see es) (above_same cell_of _ _ (rows_by see es) (sym (same_cell_is _ _ same)) (rows_above see (cell_of_kept e) es all)) ∙ sym row
+  row_by_both e es c None true all row same rest = find_above cell_of c (rows_by see es) (above_same cell_of _ _ (rows_by see es) (sym (same_cell_same _ _ same)) (rows_above see (cell_of_kept e) es all)) ∙ sym row
   row_by_both e es c None false all row same rest = rest
   row_by_both e es c (Some r) true all row same rest =
       subst (λ d. cond (same_cell d c) (Some r) (row_at (rows_by see es) c) ≡ row_by see e) (sym (row_keeps see e r row)) (rw same (sym row))
@@ -90,7 +91,7 @@ with_equal c (Some row) q rows stands here all =
 -- past the first row
 with_greater : (c : Cell) (o : Option StoredRow) (q : StoredRow) (rows : List StoredRow) → ((row : StoredRow) → o ≡ Some row → cell_of row ≡ c) → cell_cmp c (cell_of q) ≡ Greater
     → rows_with c o (q ∷ rows) ≡ q ∷ rows_with c o rows
-with_greater c None q rows stands past = rw (turned c (cell_of q) Greater past) refl
+with_greater c None q rows stands past = rw (cell_turned c (cell_of q) Greater past) refl
 with_greater c (Some row) q rows stands past =
     let after : cell_cmp (cell_of row) (cell_of q) ≡ Greater = subst (λ d. cell_cmp d (cell_of q) ≡ Greater) (sym (stands row refl)) past in
     rw after refl
@@ -101,10 +102,10 @@ module _ (see : List Version → Option Version) where
       → rows_by see (put_in_order cell_of_kept e ys) ≡ rows_with (cell_of_kept e) (row_by see e) (rows_by see ys)
       → rows_by see (put_at o e y ys (put_in_order cell_of_kept e ys)) ≡ rows_with (cell_of_kept e) (row_by see e) (rows_by see (y ∷ ys))
   rows_put_by e y ys Less is r rest =
-      sym (with_above (cell_of_kept e) (row_by see e) (rows_by see (y ∷ ys)) (row_keeps see e) (rows_above see (cell_of_kept e) (y ∷ ys) (is, above_lower cell_of_kept (cell_of_kept e) (cell_of_kept y) ys is r.0)))
+      sym (with_above (cell_of_kept e) (row_by see e) (rows_by see (y ∷ ys)) (row_keeps see e) (rows_above see (cell_of_kept e) (y ∷ ys) (is, above_later cell_of_kept (cell_of_kept e) (cell_of_kept y) ys is r.0)))
   rows_put_by e y ys Equal is r rest = by_row (row_by see y) refl where
     here : cell_of_kept e ≡ cell_of_kept y
-    here = tied_cells (cell_of_kept e) (cell_of_kept y) is
+    here = same_cells (cell_of_kept e) (cell_of_kept y) is
 
     above : AreAbove cell_of (cell_of_kept e) (rows_by see ys)
     above = rows_above see (cell_of_kept e) ys (above_same cell_of_kept _ _ ys here r.0)
@@ -135,11 +136,11 @@ kept_at-put e (y ∷ ys) c = by_cmp (cell_cmp (cell_of_kept e) (cell_of_kept y))
   by_cmp Equal is rest = by_test (same_cell (cell_of_kept e) c) refl where
     by_test : (b : Bool) → same_cell (cell_of_kept e) c ≡ b → cond b (Some e) (kept_at ys c) ≡ cond b (Some e) (cond (same_cell (cell_of_kept y) c) (Some y) (kept_at ys c))
     by_test true same = refl
-    by_test false same = subst (λ d. kept_at ys c ≡ cond (same_cell d c) (Some y) (kept_at ys c)) (tied_cells (cell_of_kept e) (cell_of_kept y) is) (rw same refl)
+    by_test false same = subst (λ d. kept_at ys c ≡ cond (same_cell d c) (Some y) (kept_at ys c)) (same_cells (cell_of_kept e) (cell_of_kept y) is) (rw same refl)
   by_cmp Greater is rest = by_test (same_cell (cell_of_kept y) c) refl where
     by_test : (b : Bool) → same_cell (cell_of_kept y) c ≡ b → cond b (Some y) (kept_at (put_in_order cell_of_kept e ys) c) ≡ cond (same_cell (cell_of_kept e) c) (Some e) (cond b (Some y) (kept_at ys c))
     by_test false same = rest
-    by_test true same = subst (λ d. Some y ≡ cond (same_cell (cell_of_kept e) d) (Some e) (Some y)) (same_cell_is (cell_of_kept y) c same) (rw is refl)
+    by_test true same = subst (λ d. Some y ≡ cond (same_cell (cell_of_kept e) d) (Some e) (Some y)) (same_cell_same (cell_of_kept y) c same) (rw is refl)
 
 -- order is kept
 above_put : (e : Kept) (kept : List Kept) (c : Cell) → cell_cmp c (cell_of_kept e) ≡ Less → AreAbove cell_of_kept c kept → AreAbove cell_of_kept c (put_in_order cell_of_kept e kept)
@@ -154,16 +155,16 @@ pub rising_put : (e : Kept) (kept : List Kept) → IsRising cell_of_kept kept �
 rising_put e [] r = (tt, tt)
 rising_put e (y ∷ ys) r = by_cmp (cell_cmp (cell_of_kept e) (cell_of_kept y)) refl (rising_put e ys r.1) where
   by_cmp : (o : Ordering) → cell_cmp (cell_of_kept e) (cell_of_kept y) ≡ o → IsRising cell_of_kept (put_in_order cell_of_kept e ys) → IsRising cell_of_kept (put_at o e y ys (put_in_order cell_of_kept e ys))
-  by_cmp Less is rest = ((is, above_lower cell_of_kept (cell_of_kept e) (cell_of_kept y) ys is r.0), r)
-  by_cmp Equal is rest = (above_same cell_of_kept (cell_of_kept e) (cell_of_kept y) ys (tied_cells (cell_of_kept e) (cell_of_kept y) is) r.0, r.1)
-  by_cmp Greater is rest = (above_put e ys (cell_of_kept y) (turned (cell_of_kept e) (cell_of_kept y) Greater is) r.0, rest)
+  by_cmp Less is rest = ((is, above_later cell_of_kept (cell_of_kept e) (cell_of_kept y) ys is r.0), r)
+  by_cmp Equal is rest = (above_same cell_of_kept (cell_of_kept e) (cell_of_kept y) ys (same_cells (cell_of_kept e) (cell_of_kept y) is) r.0, r.1)
+  by_cmp Greater is rest = (above_put e ys (cell_of_kept y) (cell_turned (cell_of_kept e) (cell_of_kept y) Greater is) r.0, rest)
 
 -- what is found at a key stands there
 pub found_cell : {A : Type 0} (cell : A → Cell) (c : Cell) (xs : List A) (x : A) → find (λ y. same_cell (cell y) c) xs ≡ Some x → cell x ≡ c
 found_cell cell c [] x is = cc
 found_cell cell c (y ∷ ys) x is = by_test (same_cell (cell y) c) refl is (found_cell cell c ys x) where
   by_test : (b : Bool) → same_cell (cell y) c ≡ b → cond b (Some y) (find (λ z. same_cell (cell z) c) ys) ≡ Some x → (find (λ z. same_cell (cell z) c) ys ≡ Some x → cell x ≡ c) → cell x ≡ c
-  by_test true same is rest = let here : y ≡ x = cc in ap cell (sym here) ∙ same_cell_is (cell y) c same
+  by_test true same is rest = let here : y ≡ x = cc in ap cell (sym here) ∙ same_cell_same (cell y) c same
   by_test false same is rest = rest is
 
 found_above : (d c : Cell) (rows : List StoredRow) (row : StoredRow) → row_at rows c ≡ Some row → AreAbove cell_of d rows → cell_cmp d (cell_of row) ≡ Less
@@ -180,7 +181,7 @@ rows_with_same c (y ∷ ys) r = by_test (same_cell (cell_of y) c) refl (rows_wit
   later : (o : Option StoredRow) → row_at ys c ≡ o → same_cell (cell_of y) c ≡ false → rows_with c o ys ≡ ys → rows_with c o (y ∷ ys) ≡ y ∷ ys
   later None is apart rest = rw apart (ap (λ l. y ∷ l) rest)
   later (Some row) is apart rest =
-      let past : cell_cmp (cell_of row) (cell_of y) ≡ Greater = turned (cell_of y) (cell_of row) Less (found_above (cell_of y) c ys row is r.0) in
+      let past : cell_cmp (cell_of row) (cell_of y) ≡ Greater = cell_turned (cell_of y) (cell_of row) Less (found_above (cell_of y) c ys row is r.0) in
       rw past (ap (λ l. y ∷ l) rest)
 
   by_test : (b : Bool) → same_cell (cell_of y) c ≡ b → rows_with c (row_at ys c) ys ≡ ys → rows_with c (cond b (Some y) (row_at ys c)) (y ∷ ys) ≡ y ∷ ys

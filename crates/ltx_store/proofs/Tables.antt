@@ -14,8 +14,8 @@ use Rattle.std.proofs.lemmas.Bool.Decides.{nat_tests}
 use Rattle.ltx_model.specs.Keys.{Cell, key_cmp, cell_cmp, same_cell, put_in_order, put_at, AreAbove, IsRising}
 use Rattle.ltx_chain.specs.Versions.{Versions}
 use Rattle.ltx_store.specs.Kept.{Kept, cell_of_kept, kept_at, chain_at, of_table, of_tables}
-use Rattle.ltx_store.proofs.Rows.{put_above, find_above}
-use Rattle.ltx_store.proofs.Order.{turned}
+use Rattle.ltx_model.proofs.Rising.{put_above, item_at-above}
+use Rattle.ltx_model.proofs.CellOrder.{cell_turned}
 
 -- the pairs of a table
 abbrev Pairs : Type 0
@@ -53,7 +53,7 @@ tables_above c t (pairs ∷ ts) less = above_append c (of_table t pairs) (of_tab
 
 -- a key in a list of two parts
 find_append_above : (c : Cell) (xs ys : List Kept) → AreAbove cell_of_kept c ys → chain_at (xs ++ ys) c ≡ chain_at xs c
-find_append_above c [] ys all = ap (option_map (λ e. e.versions)) (find_above cell_of_kept c ys all)
+find_append_above c [] ys all = ap (option_map (λ e. e.versions)) (item_at-above cell_of_kept c ys all)
 find_append_above c (x ∷ xs) ys all = by_test (same_cell (cell_of_kept x) c) (find_append_above c xs ys all) where
   by_test : (b : Bool) → chain_at (xs ++ ys) c ≡ chain_at xs c → option_map (λ (e : Kept). e.versions) (cond b (Some x) (kept_at (xs ++ ys) c)) ≡ option_map (λ (e : Kept). e.versions) (cond b (Some x) (kept_at xs c))
   by_test true rest = refl
@@ -61,7 +61,7 @@ find_append_above c (x ∷ xs) ys all = by_test (same_cell (cell_of_kept x) c) (
 
 find_append_under : (c : Cell) (xs ys : List Kept) → AreUnder c xs → chain_at (xs ++ ys) c ≡ chain_at ys c
 find_append_under c [] ys all = refl
-find_append_under c (x ∷ xs) ys all = rw (turned c (cell_of_kept x) Greater all.0) (find_append_under c xs ys all.1)
+find_append_under c (x ∷ xs) ys all = rw (cell_turned c (cell_of_kept x) Greater all.0) (find_append_under c xs ys all.1)
 
 -- a key of a table
 chain_in_table : (t : ℕ) (key : List ℕ) (pairs : Pairs) → chain_at (of_table t pairs) (record { table = t; key = key }) ≡ lookup (is_at (key_cmp key)) pairs

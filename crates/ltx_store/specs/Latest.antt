@@ -2,7 +2,8 @@
 use Rattle.std.specs.Prelude.{◌≡◌, ℕ, Bool, true, List, Option, Some, None, option_map}
 use Rattle.std.specs.declared.cmp.Ordering.TheVariants.{Less}
 use Rattle.ltx_model.specs.Keys.{key_cmp}
-use Rattle.ltx_index.specs.Pairs.{value_at, reaches}
+use Rattle.ltx_index.specs.Pairs.{value_at}
+use Rattle.ltx_model.specs.NextKeys.{reaches}
 use Rattle.ltx_chain.specs.declared.chain.Version.{Version}
 use Rattle.ltx_chain.specs.Versions.{Versions, latest}
 use Rattle.ltx_store.specs.Kept.{items_of}

@@ -1,38 +1,29 @@
--- A walk along a table's pairs, from a bound on.
-use Rattle.std.specs.Prelude.{◌≡◌, ℕ, ◌+◌, Bool, true, false, List, [], ◌∷◌, length, take, slice_get, Option, Some, None, if◌then◌else◌, IfSome}
+-- A walk along a table's pairs: what is left of it, and what was met so far.
+use Rattle.std.specs.Prelude.{◌≡◌, ℕ, Bool, true, ◌||◌, ◌++◌, List, filter}
 use Rattle.std.specs.List.{AllByRecursion}
-use Rattle.std.specs.Ordering.{is_gt}
-use Rattle.ltx_model.specs.Keys.{key_cmp}
+use Rattle.std.specs.Map.{keys_of}
+use Rattle.std.specs.Ordering.{is_lt}
+use Rattle.ltx_model.specs.Keys.{key_cmp, is_empty}
 use Rattle.ltx_model.specs.declared.rows.Row.{Row}
 use Rattle.ltx_model.specs.declared.writes.Look.{Look}
-use Rattle.ltx_index.specs.Pairs.{IsInOrder, reaches}
-use Rattle.ltx_chain.specs.Versions.{Versions, latest}
-use Rattle.ltx_store.specs.Latest.{putter}
+use Rattle.ltx_index.specs.Pairs.{IsInOrder}
+use Rattle.ltx_model.specs.NextKeys.{reaches}
+use Rattle.ltx_chain.specs.Versions.{Versions}
+use Rattle.ltx_store.specs.Latest.{putter_at}
 use Rattle.ltx_store.specs.Scans.{between, rows_seen, looks_seen}
 
--- how many pairs stand before a key's place
-abbrev pub before_key : {V : Type 0} → List ℕ → List (List ℕ × V) → ℕ
-before_key key [] = 0
-before_key key (p ∷ ps) = if is_gt (key_cmp key p.0) then before_key key ps + 1 else 0
+-- the pairs below the upper end of a range, which is no bound where it is empty
+abbrev pub under : List ℕ → List (List ℕ × Versions) → List (List ℕ × Versions)
+under high pairs = filter (λ p. is_empty high || is_lt (key_cmp p.0 high)) pairs
 
--- how many pairs stand before the walk's next one
-abbrev pub walked : {V : Type 0} → List (List ℕ × V) → Option (List ℕ × V) → ℕ
-walked pairs None = length pairs
-walked pairs (Some p) = before_key p.0 pairs
+-- With what is left below the upper end, the rows and the looks are those of the range.
+pub record IsScanned (low high : List ℕ) (mark : ℕ) (table left : List (List ℕ × Versions)) (rows : List Row) (looks : List Look) : Type 0 where
+  pub order : IsInOrder left
+  pub rows_are : rows ++ rows_seen mark (under high left) ≡ rows_seen mark (between low high table)
+  pub looks_are : looks ++ looks_seen mark (under high left) ≡ looks_seen mark (between low high table)
 
--- The next pair stands at its place among the pairs, and reaches the bound.
-pub record IsWalk {V : Type 0} (from : List ℕ) (strict : Bool) (pairs : List (List ℕ × V)) (next : Option (List ℕ × V)) : Type 0 where
-  pub order : IsInOrder pairs
-  pub here : slice_get pairs (walked pairs next) ≡ next
-  pub reached : IfSome next (λ p. reaches from strict p.0 ≡ true)
-
--- What was walked so far of a range is in the rows and the looks.
-pub record IsScanned (low high : List ℕ) (mark : ℕ) (pairs : List (List ℕ × Versions)) (next : Option (List ℕ × Versions)) (rows : List Row) (looks : List Look) : Type 0 where
-  pub walk : IsWalk low false pairs next
-  pub rows_are : rows ≡ rows_seen mark (between low high (take (walked pairs next) pairs))
-  pub looks_are : looks ≡ looks_seen mark (between low high (take (walked pairs next) pairs))
-
--- No key that was walked so far has a row.
-pub record HasPassed (from : List ℕ) (strict : Bool) (pairs : List (List ℕ × Versions)) (next : Option (List ℕ × Versions)) : Type 0 where
-  pub walk : IsWalk from strict pairs next
-  pub bare : AllByRecursion (λ p. reaches from strict p.0 ≡ true → putter (latest p.1.items) ≡ None) (take (walked pairs next) pairs)
+-- From the bound on, a key has a row in the table where it has one in what is left.
+pub record HasPassed (from : List ℕ) (strict : Bool) (table left : List (List ℕ × Versions)) : Type 0 where
+  pub order : IsInOrder left
+  pub reached : AllByRecursion (λ k. reaches from strict k ≡ true) (keys_of left)
+  pub same : (key : List ℕ) → reaches from strict key ≡ true → putter_at table key ≡ putter_at left key

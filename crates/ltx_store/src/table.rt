@@ -85,12 +85,11 @@ pub(crate) fn next_put<'t>(
     ensures none { IfNone result (HasNoNextPut table.now from.now strict) }
     ensures in_order { IsInOrder table.now }
 {
-    let mut next = table.after(from, strict);
-    while let Some((key, chain)) = next {
+    let mut walk = table.walk(from, strict);
+    while let Some((key, chain)) = walk.next() {
         if let Some(writer) = putter(chain) {
             return Some((key, writer));
         }
-        next = table.after(key.bytes(), true);
     }
     None
 }
@@ -122,13 +121,12 @@ pub(crate) fn scan(
         rows: Vec::new(alloc),
         looks: Vec::new(alloc),
     };
-    let mut next = table.after(low.bytes(), false);
-    while let Some((key, chain)) = next {
+    let mut walk = table.walk(low.bytes(), false);
+    while let Some((key, chain)) = walk.next() {
         if !is_below(key, high) {
             return Ok(scanned);
         }
         note(&mut scanned, key, chain, mark)?;
-        next = table.after(key.bytes(), true);
     }
     Ok(scanned)
 }

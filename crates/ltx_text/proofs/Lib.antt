@@ -1,8 +1,11 @@
 pub mod BlockLemmas
 pub mod LineAsks
+pub mod CutLemmas
 pub mod DecimalLemmas
+pub mod Fronts
 pub mod LineGiven
 pub mod LineLemmas
 pub mod LineRuns
+pub mod Numbers
 pub mod WordLemmas
 pub mod WordReadings

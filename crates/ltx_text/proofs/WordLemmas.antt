@@ -10,7 +10,8 @@ use Rattle.std.proofs.Math.Seq.{take-add, take-append_seam}
 use Rattle.std.proofs.lemmas.Bool.{both_ways, cases_Bool}
 use lib.Pointwise.{pointwise}
 use lib.Dec.{eqb}
-use Rattle.ltx_text.specs.Words.{AreBytes, AreVisible, byte_spelling, hex_digit, is_plain, is_visible, spellings, word_of}
+use Rattle.ltx_text.specs.Words.{AreVisible, byte_spelling, hex_digit, is_plain, is_visible, spellings, word_of}
+use Rattle.ltx_model.specs.Limits.{AreBytes}
 
 pub plain_spelling : (b : ℕ) → is_plain b ≡ true → byte_spelling b ≡ b ∷ []
 unfolding byte_spelling

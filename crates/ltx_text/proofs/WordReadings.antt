@@ -6,7 +6,8 @@ use Rattle.std.proofs.lemmas.Bool.{cases_Bool}
 use Rattle.std.proofs.lemmas.List.Elements.{All-from_recursion, recursion_from_All}
 use Rattle.std.specs.Cmp.Lexicographic.{same_text, other_text}
 use Rattle.ltx_text.specs.Readings.{hex_value, unescaped, if_word_of, bytes_of}
-use Rattle.ltx_text.specs.Words.{AreBytes, byte_spelling, hex_digit, is_plain, spellings, word_of}
+use Rattle.ltx_text.specs.Words.{byte_spelling, hex_digit, is_plain, spellings, word_of}
+use Rattle.ltx_model.specs.Limits.{AreBytes}
 use Rattle.ltx_text.proofs.WordLemmas.{plain_spelling, escaped_spelling, word_spelling_injective}
 
 pub text_is : (xs ys : List ℕ) → bytes_eq xs ys ≡ true → xs ≡ ys

@@ -1,4 +1,5 @@
 pub mod Block
+pub mod Cuts
 pub mod Decimals
 pub mod Lines
 pub mod Pieces

@@ -1,9 +1,5 @@
 -- Words: the one spelling of a byte string in visible bytes.
-use Rattle.std.specs.Prelude.{ℕ, ◌+◌, ◌/◌, ◌%◌, ◌<◌, Bool, IsTrue, not, nat_lt, nat_le, if◌then◌else◌, ◌&&◌, ◌==◌, List, [], ◌∷◌, All, flat_map}
-
--- each element is a byte
-abbrev pub AreBytes : List ℕ → Type 0
-AreBytes bytes = All (λ b. b < 256) bytes
+use Rattle.std.specs.Prelude.{ℕ, ◌+◌, ◌/◌, ◌%◌, Bool, IsTrue, not, nat_lt, nat_le, if◌then◌else◌, ◌&&◌, ◌==◌, List, [], ◌∷◌, All, flat_map}
 
 -- a visible byte: 33 to 126
 abbrev pub is_visible : ℕ → Bool

@@ -1,7 +1,7 @@
 //! Decimals: each number has one spelling in digits, with no sign and no leading zero, and zero is `0`.
 ghost use Rattle.std.specs.Prelude.{◌≡◌, ◌≢◌, ◌++◌, ◌^◌, ◌<◌, ◌≤◌, ℕ, length, Some, OnOk, OnErr, IfSome, IfNone};
 ghost use Rattle.std.specs.Str.Parse.{AllDigits, digits_value};
-ghost use Rattle.ltx_text.specs.Decimals.{decimal_of};
+ghost use Rattle.ltx_text.specs.Decimals.{decimal_of, number_in};
 ghost use Rattle.ltx_text.specs.Words.{AreVisible};
 
 use itoa::Buffer;
@@ -40,6 +40,19 @@ pub fn decimal(word: &[u8]) -> Option<u64>
         return None;
     }
     number_of(word)
+}
+
+/// The number with this decimal, from the first on and below another.
+pub fn number_in(word: &[u8], first: u64, past: u64) -> Option<u64>
+    ensures value { result ≡ number_in first past word.now }
+    ensures range { IfSome result (λ n. (first ≤ n) × (n < past)) }
+{
+    let n = decimal(word)?;
+    if first <= n && n < past {
+        Some(n)
+    } else {
+        None
+    }
 }
 
 /// The number that the digits write. None where one is no digit, or the number is no u64.

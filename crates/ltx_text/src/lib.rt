@@ -4,9 +4,11 @@
 #![tactic(auto)]
 
 mod block;
+pub mod cuts;
 pub mod decimals;
 pub mod lines;
 pub mod piece;
+pub mod print;
 pub mod words;
 
 #[cfg(test)]

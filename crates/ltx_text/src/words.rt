@@ -4,8 +4,10 @@
 ghost use Rattle.std.specs.Prelude.{◌≡◌, ◌≢◌, ◌++◌, ◌<◌, ◌/◌, ◌%◌, ℕ, List, length, take, OnOk, OnErr, IfOk, IfSome, IfNone, IsFalse, IsSomeAnd, option_map};
 ghost use Rattle.std.specs.List.{list_all};
 ghost use Rattle.ltx_text.specs.Readings.{bytes_of};
-ghost use Rattle.ltx_text.specs.Words.{AreBytes, AreVisible, byte_spelling, hex_digit, is_plain, spellings, word_of};
+ghost use Rattle.ltx_text.specs.Words.{AreVisible, byte_spelling, hex_digit, is_plain, spellings, word_of};
+ghost use Rattle.ltx_model.specs.Limits.{AreBytes};
 
+use crate::print::or_taken_back;
 use ltx_model::memory::NoMemory;
 use std::alloc::Global;
 
@@ -16,10 +18,7 @@ pub fn encode_word(bytes: &[u8], out: &mut Vec<u8>) -> Result<(), NoMemory>
 {
     let start = out.len();
     let done = put_word(bytes, out);
-    if done.is_err() {
-        out.truncate(start);
-    }
-    done
+    or_taken_back(done, start, out)
 }
 
 /// What callers may rest on when they join words by spaces: each word stands for one byte string, is not

@@ -29,7 +29,8 @@ use Rattle.ltx_model.specs.States.{Base, IsSound, State, Step, Kind, IsShort, Is
 use Rattle.ltx_model.specs.Histories.{state}
 use Rattle.ltx_model.specs.Shorts.{holder, Held, held_table, Change, same_writer, is_changed, candidates, change_of, first_change}
 use Rattle.ltx_model.specs.Batches.{Witness, batch_operations, target, waits, late_or, late_of, first_late, is_late_key, late_witness, last_writer, cells_written_by, contradicted, contradicted_write, contradicts_of, first_contradicted, first_witness}
-use Rattle.ltx_model.specs.Answers.{staged, answer, IsLegalWith, command_reply, verb_reply, begin_short, begin_long, short_reply, long_reply, last_number, last_epoch, operation, operation_in, operation_of_short, operation_of_batch, counted, is_full, refusal, unless_in, commit, commit_in, commit_short, commit_live, commit_at, checked, abort, advance, flush, flush_within}
+use Rattle.ltx_model.specs.Answers.{staged, answer, IsLegalWith, command_reply, verb_reply, begin_short, begin_long, short_reply, long_reply, operation, operation_in, operation_of_short, operation_of_batch, counted, is_full, refusal, unless_in, commit, commit_in, commit_short, commit_live, commit_at, checked, abort, advance, flush, flush_within}
+use Rattle.ltx_model.specs.Limits.{last_number, last_epoch}
 use Rattle.ltx_lemmas.proofs.Rising.{rising_after_all, rising_run}
 use Rattle.ltx_laws.proofs.Structures.{structure_of}
 use Rattle.ltx_reply.specs.Texts.{IsReply, key_of}

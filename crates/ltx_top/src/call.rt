@@ -1,7 +1,6 @@
 //! The top call.
 
 ghost use Rattle.std.specs.Prelude.{◌≡◌, ◌≢◌, ◌≤◌, ◌<◌, ◌↔◌, ◌⊎◌, ℕ, List, Some, true, false, Ok, Err, map, length, [], ◌∷◌, codes, string_bytes, IfOk, IfErr, IfSome, OnOk};
-ghost use Rattle.ltx_model.specs.States.{base_of};
 ghost use Rattle.ltx_outside.specs.Faults.{Rose};
 ghost use Rattle.ltx_top.specs.Transcripts.{empty_base};
 ghost use Rattle.ltx_top.specs.Runs.{Cut, Ran, Stopped, devices, most_of_script, took};
@@ -11,20 +10,8 @@ use crate::runner::Runner;
 use crate::status::{Status, Stop};
 use crate::words::is_run;
 use ltx_model::base::Recovered;
-use ltx_model::rows::StoredList;
 use ltx_outside::{Disk, Sink, Source};
 use std::alloc::Global;
-
-/// What a run without a log starts from.
-fn no_rows(alloc: Global) -> Recovered
-    ensures { base_of result 17 ≡ empty_base }
-{
-    Recovered {
-        rows: StoredList::from_vec(Vec::new(alloc)),
-        epoch: 0,
-        last: 0,
-    }
-}
 
 /// Runs a script: the answer is whether some reply was `bad`.
 fn run_script<S: Source, K: Sink>(alloc: Global, source: &mut S, sink: &mut K) -> Result<bool, Stop>
@@ -35,7 +22,7 @@ fn run_script<S: Source, K: Sink>(alloc: Global, source: &mut S, sink: &mut K) -
     ensures source_counted { S.faults source.old ≤ S.faults source.new }
     ensures sink_counted { K.faults sink.old ≤ K.faults sink.new }
 {
-    match Runner::new(alloc, no_rows(alloc)) {
+    match Runner::new(alloc, Recovered::blank(alloc)) {
         Err(_) => Err(Stop::NoMemory),
         Ok(mut runner) => match runner.work(source, sink) {
             Err(stop) => Err(stop),

@@ -2,7 +2,7 @@
 
 ghost use Rattle.std.specs.Prelude.{◌≡◌, ◌≤◌, ℕ, List, [], ◌∷◌, ◌++◌, false, IfOk, OnOk, OnErr, IfErr};
 ghost use Rattle.ltx_model.specs.declared.replies.Entry.{Entry};
-ghost use Rattle.ltx_model.specs.States.{Base, IsSound, base_of};
+ghost use Rattle.ltx_model.specs.States.{Base, base_of};
 ghost use Rattle.ltx_model.specs.Histories.{state};
 ghost use Rattle.ltx_core.specs.Stands.{StandsFor};
 ghost use Rattle.ltx_script.specs.Lines.{line_of};
@@ -38,13 +38,13 @@ pub(crate) struct Responder {
 impl Responder {
     /// One that has answered nothing yet, over a base.
     pub fn new(alloc: Global, base: Recovered) -> Result<Responder, NoMemory>
-        ensures core { IfOk result (λ r. (gate : ℕ) → IsSound (base_of base gate) → StandsFor r.core (base_of base gate) []) }
+        ensures core { IfOk result (λ r. (gate : ℕ) → StandsFor r.core (base_of base gate) []) }
         ensures text { IfOk result (λ r. r.text.items ≡ []) }
         ensures malformed { IfOk result (λ r. r.malformed ≡ false) }
     {
         Ok(Responder {
             alloc,
-            core: Core::new(alloc, base)?,
+            core: Core::new(alloc, Recovered::blank(alloc))?,
             text: Vec::new(alloc),
             malformed: false,
         })

@@ -2,7 +2,7 @@
 
 ghost use Rattle.std.specs.Prelude.{◌≡◌, ◌≤◌, ◌<◌, ℕ, List, Option, [], take, length, true, false, Ok, IfOk, OnOk, IfErr};
 ghost use Rattle.std.specs.Io.KnownBytes.{Appends, IsAtEnd};
-ghost use Rattle.ltx_model.specs.States.{IsSound, base_of};
+ghost use Rattle.ltx_model.specs.States.{base_of};
 ghost use Rattle.ltx_core.specs.Stands.{StandsFor};
 ghost use Rattle.ltx_outside.specs.Reads.{Reads};
 ghost use Rattle.ltx_text.specs.Lines.{fresh, to_go};
@@ -41,7 +41,7 @@ impl Runner {
     /// A run that has read nothing yet, over a base.
     pub fn new(alloc: Global, base: Recovered) -> Result<Runner, NoMemory>
         ensures lines { IfOk result (λ s. s.lines ≡ fresh most_of_script) }
-        ensures core { IfOk result (λ s. (gate : ℕ) → IsSound (base_of base gate) → StandsFor s.responder.core (base_of base gate) []) }
+        ensures core { IfOk result (λ s. (gate : ℕ) → StandsFor s.responder.core (base_of base gate) []) }
         ensures text { IfOk result (λ s. s.responder.text.items ≡ []) }
         ensures malformed { IfOk result (λ s. s.responder.malformed ≡ false) }
     {

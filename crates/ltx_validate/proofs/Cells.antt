@@ -6,7 +6,8 @@ use Rattle.std.specs.Ordering.{nat_cmp, ordering_then}
 use Rattle.std.specs.FinMap.{nat_cmp-IsAntisymmetric}
 use Rattle.std.specs.Cmp.{nat_cmp_total, tied_itself}
 use Rattle.ltx_model.specs.Keys.{Cell, key_cmp, cell_cmp, same_cell}
-use Rattle.ltx_validate.proofs.Keys.{is_equal, same_key}
+use Rattle.ltx_model.proofs.Orderings.{is_equal}
+use Rattle.ltx_model.proofs.KeyOrder.{same_keys}
 
 then_equal : (a b : Ordering) → ordering_then a b ≡ Equal → (a ≡ Equal) × (b ≡ Equal)
 then_equal Less b e = cc
@@ -17,7 +18,7 @@ pub same_cell_same : (a b : Cell) → same_cell a b ≡ true → a ≡ b
 same_cell_same a b e =
     let both = then_equal (nat_cmp a.table b.table) (key_cmp a.key b.key) (is_equal (cell_cmp a b) e) in
     let tables : a.table ≡ b.table = nat_cmp-IsAntisymmetric a.table b.table both.0 in
-    let keys : a.key ≡ b.key = same_key a.key b.key both.1 in
+    let keys : a.key ≡ b.key = same_keys a.key b.key both.1 in
     λ i. record { table = tables i; key = keys i }
 
 pub number_itself : (n : ℕ) → nat_cmp n n ≡ Equal

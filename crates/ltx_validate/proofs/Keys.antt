@@ -11,10 +11,9 @@ use Rattle.std.proofs.lemmas.Bool.{cases_lt}
 use Rattle.std.proofs.lemmas.List.Folds.{list_any_at, list_any_none}
 use Rattle.std.proofs.lemmas.List.Sorted.{searchable_from_sorted}
 use Rattle.std.proofs.lemmas.Map.Keys.{Less-from_sorted}
-use Rattle.ltx_model.specs.Keys.{key_cmp, is_empty}
+use Rattle.ltx_model.specs.Keys.{key_cmp, is_empty, is_below_end}
 use Rattle.ltx_model.specs.NextKeys.{reaches}
 use Rattle.ltx_model.specs.Notes.{is_one_of}
-use Rattle.ltx_validate.specs.Turns.{is_below}
 
 pub turn : (a b : List ℕ) (o : Ordering) → key_cmp a b ≡ o → key_cmp b a ≡ ordering_reverse o
 turn a b o is = nat_list_cmp_total.antisymm b a ∙ ap ordering_reverse is
@@ -58,7 +57,7 @@ not_past k key short = by_order (key_cmp k key) refl short where
   by_order Greater is e = inl (turn k key Greater is)
 
 -- a key below one that is below the upper end is so too
-pub below_lesser : (high key k : List ℕ) → key_cmp key k ≡ Less → is_below high k ≡ true → is_below high key ≡ true
+pub below_lesser : (high key k : List ℕ) → key_cmp key k ≡ Less → is_below_end high k ≡ true → is_below_end high key ≡ true
 below_lesser high key k less below = by_end (is_empty high) below where
   by_end : (b : Bool) → (b || is_lt (key_cmp k high)) ≡ true → (b || is_lt (key_cmp key high)) ≡ true
   by_end true e = refl

@@ -19,11 +19,12 @@ use Rattle.ltx_model.specs.StoredRows.{writer_at}
 use Rattle.ltx_model.specs.Operations.{table_of, writes_at, looks_up}
 use Rattle.ltx_model.specs.States.{Step}
 use Rattle.ltx_model.specs.Shorts.{Change, Changes, IsNotAfter, IsFirstChange}
-use Rattle.ltx_model.specs.Notes.{look_of, is_one_of, IsLook, IsRange, IsPoint, IsReach, IsNote, AreNotesOf, AreNotes}
+use Rattle.ltx_model.specs.Notes.{look_of, is_one_of, IsLook, IsRange, IsPoint, IsReach, IsNote, AreNotesOf, AreNotes, found_in, asks, found_at}
 use Rattle.ltx_validate.specs.declared.difference.Difference.{Difference}
-use Rattle.ltx_validate.specs.Differences.{at, found_in, asks, found_at, AreRisingLooks, IsOrdered, IsLeastDifference, Tells}
-use Rattle.ltx_validate.proofs.Keys.{turn, itself, same_key, is_equal}
-use Rattle.ltx_validate.proofs.Cells.{same_cell_same, in_table}
+use Rattle.ltx_validate.specs.Differences.{at, AreRisingLooks, IsOrdered, IsLeastDifference, Tells}
+use Rattle.ltx_model.proofs.KeyOrder.{key_turned, key_itself, same_keys}
+use Rattle.ltx_model.proofs.Orderings.{is_equal}
+use Rattle.ltx_model.proofs.CellOrder.{same_cell_same, in_one_table}
 
 -- the operations of steps
 abbrev ops_of : List Step → List Op
@@ -37,7 +38,7 @@ look_tells rows cell (Some look) is = is.1
 -- in one table, cells rise as their keys do
 keys_above : (table : ℕ) (key : List ℕ) (keys : List (List ℕ)) → AreAbove (at table) (at table key) keys → AllByRecursion (λ k. key_cmp key k ≡ Less) keys
 keys_above table key [] above = tt
-keys_above table key (k ∷ ks) above = (sym (in_table table key k) ∙ above.0, keys_above table key ks above.1)
+keys_above table key (k ∷ ks) above = (sym (in_one_table table key k) ∙ above.0, keys_above table key ks above.1)
 
 rising_keys : (table : ℕ) (keys : List (List ℕ)) → IsRising (at table) keys → IsStrictlySortedBy key_cmp keys
 unfolding IsStrictlySortedBy
@@ -46,7 +47,7 @@ rising_keys table (k ∷ ks) rising = (keys_above table k ks rising.0, rising_ke
 
 looks_above : (table : ℕ) (key : List ℕ) (looks : List Look) → AreAbove (λ look. at table look.key) (at table key) looks → AllByRecursion (λ look. key_cmp key look.key ≡ Less) looks
 looks_above table key [] above = tt
-looks_above table key (l ∷ ls) above = (sym (in_table table key l.key) ∙ above.0, looks_above table key ls above.1)
+looks_above table key (l ∷ ls) above = (sym (in_one_table table key l.key) ∙ above.0, looks_above table key ls above.1)
 
 rising_looks : (table : ℕ) (looks : List Look) → IsRising (λ look. at table look.key) looks → AreRisingLooks looks
 unfolding IsStrictlySortedBy
@@ -87,7 +88,7 @@ asked_point rows earlier table key look own cell p e =
     let parts = and_parts (same_cell (at table key) cell) (not (list_any (writes_at cell) earlier)) e in
     let same : at table key ≡ cell = same_cell_same (at table key) cell parts.0 in
     let foreign : own ≡ false = p.own_key ∙ ap (λ c. list_any (writes_at c) earlier) same ∙ not_true (list_any (writes_at cell) earlier) parts.1 in
-    subst (IsAsked rows table (Point key look own)) same (record { of_table = refl; asked = rw (foreign, itself key) refl; found = look_tells rows (at table key) look (p.looked foreign) })
+    subst (IsAsked rows table (Point key look own)) same (record { of_table = refl; asked = rw (foreign, key_itself key) refl; found = look_tells rows (at table key) look (p.looked foreign) })
 
 asked_range : (rows : List StoredRow) (earlier : List Op) (table : ℕ) (low high : List ℕ) (looks : List Look) (own : List (List ℕ)) (cell : Cell) → IsRange rows earlier table low high looks own → looks_up cell earlier (Scan table low high) ≡ true
     → IsAsked rows table (Range low high looks own) cell
@@ -115,9 +116,9 @@ asked_reach rows earlier (Del table key) reach cell is e = cc
 up_point : (rows : List StoredRow) (earlier : List Op) (table : ℕ) (key : List ℕ) (look : Option Look) (own : Bool) (k : List ℕ) → IsPoint rows earlier (at table key) look own → asks (Point key look own) k ≡ true → looks_up (at table k) earlier (Get table key) ≡ true
 up_point rows earlier table key look own k p e =
     let parts = and_parts (not own) (is_eq (key_cmp key k)) e in
-    let same : key ≡ k = same_key key k (is_equal (key_cmp key k) parts.1) in
+    let same : key ≡ k = same_keys key k (is_equal (key_cmp key k) parts.1) in
     let foreign : list_any (writes_at (at table key)) earlier ≡ false = sym p.own_key ∙ not_true own parts.0 in
-    let here : same_cell (at table key) (at table key) ≡ true = ap is_eq (in_table table key key ∙ itself key) in
+    let here : same_cell (at table key) (at table key) ≡ true = ap is_eq (in_one_table table key key ∙ key_itself key) in
     subst (λ q. looks_up (at table q) earlier (Get table key) ≡ true) same (rw (here, foreign) refl)
 
 up_range : (rows : List StoredRow) (earlier : List Op) (table : ℕ) (low high : List ℕ) (looks : List Look) (own : List (List ℕ)) (k : List ℕ) → IsRange rows earlier table low high looks own → asks (Range low high looks own) k ≡ true
@@ -294,7 +295,7 @@ module _ (now : List StoredRow) where
     not_lesser : (key : List ℕ) (o : Ordering) → key_cmp d.key key ≡ o → (key_cmp key d.key ≡ Less → ⊥) → is_le o ≡ true
     not_lesser key Less e none = refl
     not_lesser key Equal e none = refl
-    not_lesser key Greater e none = absurd (none (turn d.key key Greater e))
+    not_lesser key Greater e none = absurd (none (key_turned d.key key Greater e))
 
     -- a change at the same step is not before
     here_too : (other : Change) (h : Changes now steps other) → s.at ≡ h.at → IsNotAfter (k + 1) cell other.op other.cell
@@ -305,7 +306,7 @@ module _ (now : List StoredRow) where
         let place : at note.table other.cell.key ≡ other.cell = λ i. record { table = a.of_table i; key = other.cell.key } in
         let same_op : k + 1 ≡ other.op = (let f = s.numbered_so in let g : 1 + k ≡ k + 1 = omega arith in sym g ∙ sym f ∙ ap (λ o. o.number) e ∙ h.same) in
         let none : key_cmp other.cell.key d.key ≡ Less → ⊥ = (λ less. h.differ (sym found ∙ sym a.found ∙ least.least other.cell.key less a.asked ∙ ap (writer_at now) place ∙ h.current)) in
-        inr (same_op, subst (λ c. is_le (cell_cmp cell c) ≡ true) place (ap is_le (in_table note.table d.key other.cell.key) ∙ not_lesser other.cell.key (key_cmp d.key other.cell.key) refl none))
+        inr (same_op, subst (λ c. is_le (cell_cmp cell c) ≡ true) place (ap is_le (in_one_table note.table d.key other.cell.key) ∙ not_lesser other.cell.key (key_cmp d.key other.cell.key) refl none))
 
     by_others : (other : Change) (h : Changes now steps other) → IsUnchanged h.at ⊎ (s.at ≡ h.at) ⊎ (1 + k < h.at.number) → IsNotAfter (k + 1) cell other.op other.cell
     by_others other h (inl same) = absurd (h.differ (sym h.found ∙ same other.cell h.looks ∙ h.current))

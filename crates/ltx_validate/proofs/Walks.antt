@@ -1,4 +1,4 @@
--- A walk along the looks of a range and its rows now: a turn takes the least key that is left.
+-- A walk along the looks of a range and its rows now: a key_turned takes the least key that is left.
 use Rattle.std.proofs.Common.{◌≡◌, ◌≢◌, ◌⊎◌, inl, inr, ℕ, Bool, true, false, not, ◌&&◌, List, [], ◌∷◌, Option, Some, None, refl, sym, ap, ◌∙◌, subst}
 use Rattle.std.specs.List.{AllByRecursion}
 use Rattle.std.specs.List.Sorted.{IsStrictlySortedBy}
@@ -10,13 +10,15 @@ use Rattle.ltx_model.specs.declared.rows.StoredRow.{StoredRow}
 use Rattle.ltx_model.specs.declared.writes.Look.{Look}
 use Rattle.ltx_model.specs.declared.looked.Reach.{Reach}
 use Rattle.ltx_model.specs.declared.looked.Reach.TheVariants.{Range}
-use Rattle.ltx_model.specs.Keys.{key_cmp, in_range}
+use Rattle.ltx_model.specs.Keys.{key_cmp, in_range, is_below_end}
 use Rattle.ltx_model.specs.StoredRows.{writer_at}
 use Rattle.ltx_model.specs.NextKeys.{reaches}
-use Rattle.ltx_model.specs.Notes.{found_by, look_of, is_one_of}
-use Rattle.ltx_validate.specs.Differences.{at, found_in, asks, AreRisingLooks, IsOrdered, IsSame, IsLeastDifference, Tells}
-use Rattle.ltx_validate.specs.Turns.{Turning, turn_by, turn_of, is_below, IsNextRow, NextRow, IsWalk}
-use Rattle.ltx_validate.proofs.Keys.{is_less, turn, itself, same_key, trans, past_reaches, not_past, below_lesser}
+use Rattle.ltx_model.specs.Notes.{found_by, look_of, is_one_of, found_in, asks}
+use Rattle.ltx_validate.specs.Differences.{at, AreRisingLooks, IsOrdered, IsSame, IsLeastDifference, Tells}
+use Rattle.ltx_validate.specs.Turns.{Turning, turn_by, turn_of, IsNextRow, NextRow, IsWalk}
+use Rattle.ltx_validate.proofs.Keys.{trans, past_reaches}
+use Rattle.ltx_model.proofs.Orderings.{is_less}
+use Rattle.ltx_model.proofs.KeyOrder.{key_turned, key_itself, same_keys, not_past, below_end_lesser}
 
 -- a key that all looks are above has none
 abbrev AreAbove : List ℕ → List Look → Type 0
@@ -24,7 +26,7 @@ AreAbove key looks = AllByRecursion (λ look. key_cmp key look.key ≡ Less) loo
 
 look_none : (key : List ℕ) (looks : List Look) → AreAbove key looks → look_of looks key ≡ None
 look_none key [] above = refl
-look_none key (look ∷ rest) above = rw (turn key look.key Less above.0) (look_none key rest above.1)
+look_none key (look ∷ rest) above = rw (key_turned key look.key Less above.0) (look_none key rest above.1)
 
 above_lesser : (key k : List ℕ) (looks : List Look) → key_cmp key k ≡ Less → AreAbove k looks → AreAbove key looks
 above_lesser key k [] less above = tt
@@ -35,7 +37,7 @@ above_reached key [] above = tt
 above_reached key (look ∷ rest) above = (ap is_lt above.0, above_reached key rest above.1)
 
 look_here : (look : Look) (rest : List Look) → look_of (look ∷ rest) look.key ≡ Some look
-look_here look rest = rw (itself look.key) refl
+look_here look rest = rw (key_itself look.key) refl
 
 look_past : (look : Look) (rest : List Look) (key : List ℕ) → key_cmp look.key key ≡ Less → look_of rest key ≡ look_of (look ∷ rest) key
 look_past look rest key less = rw less refl
@@ -44,22 +46,22 @@ module _ (rows : List StoredRow) (table : ℕ) (high from : List ℕ) (strict : 
   abbrev now : List ℕ → Option ℕ
   now key = writer_at rows (at table key)
 
-  -- a turn from a bound on: the least key that is left, and what is left behind it
+  -- a key_turned from a bound on: the least key that is left, and what is left behind it
   pub record IsTurned (left : List Look) (next : Option (List ℕ × ℕ)) (t : Turning) : Type 0 where
     pub reached : reaches from strict t.key ≡ true
-    pub below : is_below high t.key ≡ true
+    pub below : is_below_end high t.key ≡ true
     pub found : found_in (look_of left t.key) ≡ t.found
     pub current : now t.key ≡ t.current
     pub no_look : (key : List ℕ) → key_cmp key t.key ≡ Less → look_of left key ≡ None
     pub no_row : (key : List ℕ) → reaches from strict key ≡ true → key_cmp key t.key ≡ Less → now key ≡ None
     pub left_rising : AreRisingLooks t.left
     pub left_reached : AllByRecursion (λ look. reaches t.key true look.key ≡ true) t.left
-    pub left_below : AllByRecursion (λ look. is_below high look.key ≡ true) t.left
+    pub left_below : AllByRecursion (λ look. is_below_end high look.key ≡ true) t.left
     pub same_looks : (key : List ℕ) → key_cmp t.key key ≡ Less → look_of t.left key ≡ look_of left key
     pub kept : t.current ≡ None → NextRow rows table high t.key true next
 
   turned_by : (o : Ordering) (look : Look) (rest : List Look) (row : List ℕ × ℕ) → key_cmp look.key row.0 ≡ o → AreRisingLooks (look ∷ rest) → reaches from strict look.key ≡ true
-      → AllByRecursion (λ l. is_below high l.key ≡ true) (look ∷ rest) → IsNextRow rows table high from strict row → IsTurned (look ∷ rest) (Some row) (turn_by o look rest row)
+      → AllByRecursion (λ l. is_below_end high l.key ≡ true) (look ∷ rest) → IsNextRow rows table high from strict row → IsTurned (look ∷ rest) (Some row) (turn_by o look rest row)
   unfolding IsStrictlySortedBy
   turned_by Less look rest row is rising reached below n = record {
     reached = reached;
@@ -78,9 +80,9 @@ module _ (rows : List StoredRow) (table : ℕ) (high from : List ℕ) (strict : 
     reached = reached;
     below = below.0;
     found = ap found_in (look_here look rest);
-    current = ap now (same_key look.key row.0 is) ∙ n.written;
+    current = ap now (same_keys look.key row.0 is) ∙ n.written;
     no_look = λ key less. look_none key (look ∷ rest) (less, above_lesser key look.key rest less rising.0);
-    no_row = λ key at_key less. n.least key at_key (ap (key_cmp key) (sym (same_key look.key row.0 is)) ∙ less);
+    no_row = λ key at_key less. n.least key at_key (ap (key_cmp key) (sym (same_keys look.key row.0 is)) ∙ less);
     left_rising = rising.1;
     left_reached = above_reached look.key rest rising.0;
     left_below = below.1;
@@ -88,7 +90,7 @@ module _ (rows : List StoredRow) (table : ℕ) (high from : List ℕ) (strict : 
     kept = λ e. cc;
   }
   turned_by Greater look rest row is rising reached below n =
-      let less : key_cmp row.0 look.key ≡ Less = turn look.key row.0 Greater is in
+      let less : key_cmp row.0 look.key ≡ Less = key_turned look.key row.0 Greater is in
       let above : AreAbove row.0 (look ∷ rest) = (less, above_lesser row.0 look.key rest less rising.0) in
       record {
         reached = n.reached;
@@ -104,7 +106,7 @@ module _ (rows : List StoredRow) (table : ℕ) (high from : List ℕ) (strict : 
         kept = λ e. cc;
       }
 
-  turned_look : (look : Look) (rest : List Look) → AreRisingLooks (look ∷ rest) → reaches from strict look.key ≡ true → AllByRecursion (λ l. is_below high l.key ≡ true) (look ∷ rest) → NextRow rows table high from strict None
+  turned_look : (look : Look) (rest : List Look) → AreRisingLooks (look ∷ rest) → reaches from strict look.key ≡ true → AllByRecursion (λ l. is_below_end high l.key ≡ true) (look ∷ rest) → NextRow rows table high from strict None
       → IsTurned (look ∷ rest) None (record { key = look.key; found = found_by look; current = None; left = rest })
   unfolding IsStrictlySortedBy
   turned_look look rest rising reached below n = record {
@@ -113,7 +115,7 @@ module _ (rows : List StoredRow) (table : ℕ) (high from : List ℕ) (strict : 
     found = ap found_in (look_here look rest);
     current = n look.key reached below.0;
     no_look = λ key less. look_none key (look ∷ rest) (less, above_lesser key look.key rest less rising.0);
-    no_row = λ key at_key less. n key at_key (below_lesser high key look.key less below.0);
+    no_row = λ key at_key less. n key at_key (below_end_lesser high key look.key less below.0);
     left_rising = rising.1;
     left_reached = above_reached look.key rest rising.0;
     left_below = below.1;
@@ -137,7 +139,7 @@ module _ (rows : List StoredRow) (table : ℕ) (high from : List ℕ) (strict : 
     kept = λ e. cc;
   }
 
-  pub turned : (left : List Look) (next : Option (List ℕ × ℕ)) (t : Turning) → AreRisingLooks left → AllByRecursion (λ look. reaches from strict look.key ≡ true) left → AllByRecursion (λ look. is_below high look.key ≡ true) left
+  pub turned : (left : List Look) (next : Option (List ℕ × ℕ)) (t : Turning) → AreRisingLooks left → AllByRecursion (λ look. reaches from strict look.key ≡ true) left → AllByRecursion (λ look. is_below_end high look.key ≡ true) left
       → NextRow rows table high from strict next → turn_of left next ≡ Some t → IsTurned left next t
   turned [] None t rising reached below n e = cc
   turned [] (Some row) t rising reached below n e = let same : record { key = row.0; found = None; current = Some row.1; left = [] } ≡ t = cc in subst (IsTurned [] (Some row)) same (turned_row row n)
@@ -154,23 +156,23 @@ module _ (rows : List StoredRow) (table : ℕ) (low high : List ℕ) (looks : Li
   in_parts : (a b : Bool) → (a && b) ≡ true → (a ≡ true) × (b ≡ true)
   in_parts a b e = and_parts a b e
 
-  looks_reached : (ls : List Look) → AllByRecursion (λ look. in_range low high look.key ≡ true) ls → AllByRecursion (λ look. reaches low false look.key ≡ true) ls × AllByRecursion (λ look. is_below high look.key ≡ true) ls
+  looks_reached : (ls : List Look) → AllByRecursion (λ look. in_range low high look.key ≡ true) ls → AllByRecursion (λ look. reaches low false look.key ≡ true) ls × AllByRecursion (λ look. is_below_end high look.key ≡ true) ls
   looks_reached [] all = (tt, tt)
   looks_reached (look ∷ rest) all =
-      let both = in_parts (is_le (key_cmp low look.key)) (is_below high look.key) all.0 in
+      let both = in_parts (is_le (key_cmp low look.key)) (is_below_end high look.key) all.0 in
       let more = looks_reached rest all.1 in
       ((both.0, more.0), (both.1, more.1))
 
-  asked_low : (key : List ℕ) → asks reach key ≡ true → (is_le (key_cmp low key) ≡ true) × (is_below high key ≡ true) × (is_one_of own key ≡ false)
+  asked_low : (key : List ℕ) → asks reach key ≡ true → (is_le (key_cmp low key) ≡ true) × (is_below_end high key ≡ true) × (is_one_of own key ≡ false)
   asked_low key e =
       let both = in_parts (in_range low high key) (not (is_one_of own key)) e in
-      let ends = in_parts (is_le (key_cmp low key)) (is_below high key) both.0 in
+      let ends = in_parts (is_le (key_cmp low key)) (is_below_end high key) both.0 in
       (ends.0, ends.1, by_test (is_one_of own key) both.1) where
         by_test : (b : Bool) → not b ≡ true → b ≡ false
         by_test true e = cc
         by_test false e = refl
 
-  -- the walk before its first turn
+  -- the walk before its first key_turned
   pub walk_start : (next : Option (List ℕ × ℕ)) → NextRow rows table high low false next → IsOrdered reach → IsWalk rows table low high looks own looks next
   walk_start next n ordered =
       let within = looks_reached looks ordered.1 in
@@ -213,7 +215,7 @@ module _ (rows : List StoredRow) (table : ℕ) (low high : List ℕ) (looks : Li
         by_test false is = w.settled key is
         by_test true is = λ asked. ap found_in (sym (w.same_looks key is) ∙ taken.no_look key less) ∙ sym (taken.no_row key is less)
 
-      -- the turn's key differs: it is the least that does
+      -- the key_turned's key differs: it is the least that does
       pub walk_differs : t.found ≢ t.current → is_one_of own t.key ≡ false → IsLeastDifference rows table reach (record { key = t.key; found = t.found; current = t.current })
       walk_differs differ foreign = record {
         asked = rw (w.above_low t.key taken.reached, taken.below, foreign) refl;
@@ -223,7 +225,7 @@ module _ (rows : List StoredRow) (table : ℕ) (low high : List ℕ) (looks : Li
         least = before;
       }
 
-      -- a turn more
+      -- a key_turned more
       pub walk_more : (t.found ≡ t.current) ⊎ (is_one_of own t.key ≡ true) → (more : Option (List ℕ × ℕ)) → NextRow rows table high t.key true more → IsWalk rows table low high looks own t.left more
       walk_more same more n = record {
         from = t.key;
@@ -244,6 +246,6 @@ module _ (rows : List StoredRow) (table : ℕ) (low high : List ℕ) (looks : Li
         by_place key (inl less) = before key less
         by_place key (inr e) = subst (IsSame rows table reach) (sym e) (here same)
 
-      -- where the turn's key has no row, the next row is the one that was
+      -- where the key_turned's key has no row, the next row is the one that was
       pub row_kept : t.current ≡ None → NextRow rows table high t.key true next
       row_kept none = taken.kept none

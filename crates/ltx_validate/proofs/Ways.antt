@@ -15,8 +15,10 @@ use Rattle.ltx_model.specs.Notes.{is_one_of}
 use Rattle.ltx_model.specs.Shorts.{same_writer}
 use Rattle.ltx_validate.specs.Differences.{at, IsOrdered, IsLeastDifference, Tells}
 use Rattle.ltx_validate.specs.Turns.{Turning, turn_by, turn_of, NextRow, IsOnWay, rows_from, turns_left}
-use Rattle.ltx_validate.proofs.Keys.{is_less, turn, itself, same_key, trans}
-use Rattle.ltx_validate.proofs.Cells.{same_cell_same}
+use Rattle.ltx_validate.proofs.Keys.{trans}
+use Rattle.ltx_model.proofs.Orderings.{is_less}
+use Rattle.ltx_model.proofs.KeyOrder.{key_turned, key_itself, same_keys}
+use Rattle.ltx_model.proofs.CellOrder.{same_cell_same}
 use Rattle.ltx_validate.proofs.Walks.{walk_start, walk_end, walk_differs, walk_more, row_kept}
 
 -- the two tests of writers are one
@@ -90,14 +92,14 @@ module _ (table : ℕ) where
   at_itself key r e =
       let same = same_cell_same (cell_of r) (at table key) e in
       let tables : (r.table == table) ≡ true = eq-eqb r.table table (ap (λ c. c.table) same) in
-      let keys : is_le (key_cmp key r.key) ≡ true = ap (λ c. is_le (key_cmp key c.key)) same ∙ ap is_le (itself key) in
+      let keys : is_le (key_cmp key r.key) ≡ true = ap (λ c. is_le (key_cmp key c.key)) same ∙ ap is_le (key_itself key) in
       rw (tables, keys) refl
 
   not_above : (key k : List ℕ) (r : StoredRow) → key_cmp key k ≡ Less → same_cell (cell_of r) (at table key) ≡ true → stands_from k r ≡ false
   not_above key k r less e =
       let same = same_cell_same (cell_of r) (at table key) e in
       let tables : (r.table == table) ≡ true = eq-eqb r.table table (ap (λ c. c.table) same) in
-      let keys : is_le (key_cmp k r.key) ≡ false = ap (λ c. is_le (key_cmp k c.key)) same ∙ ap is_le (turn key k Less less) in
+      let keys : is_le (key_cmp k r.key) ≡ false = ap (λ c. is_le (key_cmp k c.key)) same ∙ ap is_le (key_turned key k Less less) in
       rw (tables, keys) refl
 
   narrower : (key k : List ℕ) → key_cmp key k ≡ Less → (r : StoredRow) → stands_from k r ≡ true → stands_from key r ≡ true
@@ -106,7 +108,7 @@ module _ (table : ℕ) where
       rw (both.0, by_order (key_cmp k r.key) refl both.1) refl where
         by_order : (o : Ordering) → key_cmp k r.key ≡ o → is_le o ≡ true → is_le (key_cmp key r.key) ≡ true
         by_order Less is h = ap is_le (trans key k r.key less is)
-        by_order Equal is h = ap is_le (ap (key_cmp key) (sym (same_key k r.key is)) ∙ less)
+        by_order Equal is h = ap is_le (ap (key_cmp key) (sym (same_keys k r.key is)) ∙ less)
         by_order Greater is h = cc
 
   -- a test that a written row fails, and the test for those from its key on
@@ -131,7 +133,7 @@ module _ (rows : List StoredRow) (table : ℕ) (high : List ℕ) where
       let less : key_cmp key row.0 ≡ Less = is_less (key_cmp key row.0) n.reached in
       written_fewer table (stands_from table row.0) rows key writer (narrower table key row.0 less) (λ r e. not_above table key row.0 r less e) written
 
-  -- a turn at a row leaves fewer rows
+  -- a key_turned at a row leaves fewer rows
   pub fewer_rows : (left : List Look) (next : Option (List ℕ × ℕ)) (t : Turning) (more : Option (List ℕ × ℕ)) → IfSome next (λ row. writer_at rows (at table row.0) ≡ Some row.1) → turn_of left next ≡ Some t → is_some t.current ≡ true
       → NextRow rows table high t.key true more → turns_left rows table t.left more < turns_left rows table left next
   fewer_rows [] None t more written e some n = cc
@@ -147,7 +149,7 @@ module _ (rows : List StoredRow) (table : ℕ) (high : List ℕ) where
     by_order Equal is h =
         let left : t.left ≡ rest = cc in
         let here : look.key ≡ t.key = cc in
-        let key : row.0 ≡ t.key = sym (same_key look.key row.0 is) ∙ here in
+        let key : row.0 ≡ t.key = sym (same_keys look.key row.0 is) ∙ here in
         let less = rows_fewer row.0 row.1 more written (subst (λ k. NextRow rows table high k true more) (sym key) n) in
         rw left (omega (arith, less))
     by_order Greater is h =
@@ -156,7 +158,7 @@ module _ (rows : List StoredRow) (table : ℕ) (high : List ℕ) where
         let less = rows_fewer row.0 row.1 more written (subst (λ k. NextRow rows table high k true more) (sym key) n) in
         rw left (omega (arith, less))
 
-  -- a turn at a look alone leaves fewer looks
+  -- a key_turned at a look alone leaves fewer looks
   pub fewer_looks : (left : List Look) (next : Option (List ℕ × ℕ)) (t : Turning) → turn_of left next ≡ Some t → is_some t.current ≡ false → turns_left rows table t.left next < turns_left rows table left next
   fewer_looks [] None t e none = cc
   fewer_looks [] (Some row) t e none = absurd (let some : t.current ≡ Some row.1 = cc in both_ways (is_some t.current) none (ap is_some some))

@@ -10,29 +10,12 @@ use Rattle.ltx_model.specs.declared.looked.Reach.{Reach}
 use Rattle.ltx_model.specs.declared.looked.Reach.TheVariants.{Nothing, Point, Range}
 use Rattle.ltx_model.specs.Keys.{Cell, key_cmp, in_range}
 use Rattle.ltx_model.specs.StoredRows.{writer_at}
-use Rattle.ltx_model.specs.Notes.{found_by, look_of, is_one_of}
+use Rattle.ltx_model.specs.Notes.{asks, found_at}
 use Rattle.ltx_validate.specs.declared.difference.Difference.{Difference}
 
 -- a key of a table
 abbrev pub at : ℕ → List ℕ → Cell
 at table key = record { table = table; key = key }
-
--- the writer by a look, none where there is no look
-abbrev pub found_in : Option Look → Option ℕ
-found_in None = None
-found_in (Some look) = found_by look
-
--- the reach looked the key up
-abbrev pub asks : Reach → List ℕ → Bool
-asks Nothing k = false
-asks (Point key look own) k = not own && is_eq (key_cmp key k)
-asks (Range low high looks own) k = in_range low high k && not (is_one_of own k)
-
--- the writer that the reach notes of a key
-abbrev pub found_at : Reach → List ℕ → Option ℕ
-found_at Nothing k = None
-found_at (Point key look own) k = found_in look
-found_at (Range low high looks own) k = found_in (look_of looks k)
 
 -- looks rise by their keys
 abbrev pub AreRisingLooks : List Look → Type 0

@@ -2,9 +2,9 @@
 
 ghost use Rattle.std.specs.Prelude.{◌≡◌, ℕ, List, IfOk, false};
 ghost use Rattle.ltx_model.specs.States.{Step};
-ghost use Rattle.ltx_model.specs.Notes.{AreNotes};
+ghost use Rattle.ltx_model.specs.Notes.{AreNotes, found_in};
 ghost use Rattle.ltx_model.specs.declared.looked.Reach.TheVariants.{Point};
-ghost use Rattle.ltx_validate.specs.Differences.{found_in, IsOrdered, Tells};
+ghost use Rattle.ltx_validate.specs.Differences.{IsOrdered, Tells};
 ghost use Rattle.ltx_validate.specs.Verdicts.{change_in, IsVerdict};
 
 use crate::difference::{Difference, writer_of};

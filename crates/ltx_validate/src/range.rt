@@ -3,11 +3,11 @@
 ghost use Rattle.std.specs.Prelude.{◌≡◌, ◌&&◌, not, IfOk, IfSome, IfNone, Some, None, option_map};
 ghost use Rattle.ltx_model.specs.declared.looked.Reach.TheVariants.{Range};
 ghost use Rattle.std.specs.List.Sorted.{IsStrictlySortedBy};
-ghost use Rattle.ltx_model.specs.Keys.{key_cmp};
+ghost use Rattle.ltx_model.specs.Keys.{key_cmp, is_below_end};
 ghost use Rattle.ltx_model.specs.Notes.{is_one_of};
 ghost use Rattle.ltx_model.specs.Shorts.{same_writer};
 ghost use Rattle.ltx_validate.specs.Differences.{IsOrdered, Tells};
-ghost use Rattle.ltx_validate.specs.Turns.{is_below, turn_of, NextRow};
+ghost use Rattle.ltx_validate.specs.Turns.{turn_of, NextRow};
 
 use crate::difference::{Difference, writer_of};
 use ltx_model::bytes::{Bound, Key, compare_bytes};
@@ -109,14 +109,14 @@ fn next_row<'l, L: Latest>(
     ensures { NextRow (L.rows latest.now) table high.now from.now strict (option_map (λ r. (r.0.now, r.1)) result) }
 {
     match latest.after(table, from, strict) {
-        Some((key, writer)) if is_below(key, high) => Some((key, writer)),
+        Some((key, writer)) if is_below_end(key, high) => Some((key, writer)),
         _ => None,
     }
 }
 
 // The key is below the upper end of a range, which is no bound where it is empty.
-fn is_below(key: &Key, high: &Bound) -> bool
-    ensures { result ≡ is_below high.now key.now }
+fn is_below_end(key: &Key, high: &Bound) -> bool
+    ensures { result ≡ is_below_end high.now key.now }
 {
     high.bytes().is_empty() || compare_bytes(key.bytes(), high.bytes()).is_lt()
 }

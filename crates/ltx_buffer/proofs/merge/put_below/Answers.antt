@@ -2,7 +2,8 @@ use Rattle.std.proofs.Common.{◌≡◌, ◌+◌, ap, arith, true, rules}
 use Rattle.std.specs.Ordering.{is_lt}
 use Rattle.std.specs.declared.cmp.Ordering.TheVariants.{Less}
 use Rattle.ltx_model.specs.Keys.{key_cmp}
-use Rattle.ltx_buffer.proofs.Rows.{put_more, all_more, past, is_less}
+use Rattle.ltx_buffer.proofs.Rows.{put_more, all_more, past}
+use Rattle.ltx_model.proofs.Orderings.{is_less}
 use Rattle.ltx_buffer.proofs.merge.put_below.Goals as goal
 
 pub loop-write-preserved : goal.loop-write-preserved

@@ -1,6 +1,6 @@
 use Rattle.std.proofs.Common.{rules, not}
 use Rattle.std.proofs.lemmas.Fn.{always_returns_same}
-use Rattle.ltx_index.specs.Pairs.{reaches}
+use Rattle.ltx_model.specs.NextKeys.{reaches}
 use Rattle.ltx_index.specs.Leaves.{first_key}
 use Rattle.ltx_index.proofs.Leaves.{begin_short_before, home_found}
 use Rattle.ltx_index.proofs.index.home.Goals as goal

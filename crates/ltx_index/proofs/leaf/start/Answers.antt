@@ -1,6 +1,6 @@
 use Rattle.std.proofs.Common.{rules, not}
 use Rattle.std.proofs.lemmas.Fn.{always_returns_same}
-use Rattle.ltx_index.specs.Pairs.{reaches}
+use Rattle.ltx_model.specs.NextKeys.{reaches}
 use Rattle.ltx_index.proofs.Places.{started, falls_short_before}
 use Rattle.ltx_index.proofs.leaf.start.Goals as goal
 

@@ -1,6 +1,7 @@
 use Rattle.std.proofs.Common.{◌≡◌, ℕ, List, [], ◌∷◌, ◌++◌, Some, option_copied, sym, ap, subst, ◌∙◌, rules}
 use Rattle.ltx_model.specs.declared.rows.Row.{Row}
-use Rattle.ltx_reply.specs.Readings.{words_of, words_after, rows_in, key_at, value_at}
+use Rattle.ltx_reply.specs.Readings.{rows_in, key_at, value_at}
+use Rattle.ltx_text.specs.Cuts.{words_of, words_after}
 use Rattle.ltx_reply.proofs.RowsRead.{joined, rows_more}
 use Rattle.ltx_reply.proofs.kinds.rows_in.Goals as goal
 

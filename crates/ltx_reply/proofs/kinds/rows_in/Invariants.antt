@@ -1,5 +1,6 @@
 use Rattle.std.proofs.Common.{◌≡◌, length, option_copied}
-use Rattle.ltx_reply.specs.Readings.{words_of, words_after, rows_in}
+use Rattle.ltx_reply.specs.Readings.{rows_in}
+use Rattle.ltx_text.specs.Cuts.{words_of, words_after}
 use Rattle.ltx_reply.proofs.RowsRead.{joined}
 use Rattle.ltx_reply.proofs.kinds.rows_in.Given as goal
 

@@ -1,6 +1,6 @@
 use Rattle.std.proofs.Common.{◌≡◌, length, take, flat_map, subst}
 use Rattle.ltx_reply.specs.Texts.{row_text}
-use Rattle.ltx_reply.proofs.Fronts.{front_of}
+use Rattle.ltx_text.proofs.Fronts.{front_of}
 use Rattle.ltx_reply.proofs.pieces.put_rows.Goals as goal
 
 -- src/pieces.rt:89:9

@@ -3,7 +3,7 @@ use Rattle.std.specs.Cmp.Lexicographic.{same_text, other_text}
 use Rattle.ltx_model.specs.Tables.{all_tables, no_tables}
 use Rattle.ltx_text.specs.Decimals.{decimal_of}
 use Rattle.ltx_script.specs.Commands.{tables_of}
-use Rattle.ltx_script.specs.Lines.{cut_at}
+use Rattle.ltx_text.specs.Cuts.{cut_at}
 use Rattle.ltx_script.proofs.SetTexts.{set_again, unnamed, all_named, tables_named, all_text, none_text, is_all}
 use Rattle.ltx_script.proofs.arguments.set_of.Goals as goal
 

@@ -1,9 +1,9 @@
 use Rattle.std.proofs.Common.{◌≡◌, ◌∷◌, ◌++◌, ◌<◌, ◌^◌, ◌≤◌, ◌+◌, [], ℕ, List, Some, None, ap, sym, subst, ◌∙◌, arith, map, rules, option_copied}
 use Rattle.ltx_model.specs.Tables.{with_table, no_tables}
-use Rattle.ltx_text.specs.Decimals.{decimal_of}
+use Rattle.ltx_text.specs.Decimals.{decimal_of, number_in}
 use Rattle.ltx_script.specs.Commands.{tables_of}
-use Rattle.ltx_script.specs.Lines.{cut_at, number_in, parts_after}
-use Rattle.ltx_script.proofs.ValueLemmas.{number_is}
+use Rattle.ltx_text.specs.Cuts.{cut_at, parts_after}
+use Rattle.ltx_text.proofs.Numbers.{number_is}
 use Rattle.ltx_script.proofs.SetLemmas.{NoneFrom, Named, none_in_none, none_from_more, none_with, none_so_far, with_fits, read_more, read_last, stop_none, named_next}
 use Rattle.ltx_script.proofs.arguments.tables_in.Goals as goal
 

@@ -1,7 +1,7 @@
 use Rattle.std.proofs.Common.{◌≡◌, ◌++◌, ◌<◌, ◌^◌, length, map}
 use Rattle.ltx_text.specs.Decimals.{decimal_of}
 use Rattle.ltx_script.specs.Commands.{tables_of}
-use Rattle.ltx_script.specs.Lines.{cut_at}
+use Rattle.ltx_text.specs.Cuts.{cut_at}
 use Rattle.ltx_script.proofs.SetLemmas.{NoneFrom, Named}
 use Rattle.ltx_script.proofs.arguments.tables_in.Given as goal
 

@@ -1,5 +1,6 @@
 use Rattle.std.proofs.Common.{◌∙◌, ap, option_copied}
-use Rattle.ltx_script.specs.Lines.{alone, words_after}
+use Rattle.ltx_script.specs.Lines.{alone}
+use Rattle.ltx_text.specs.Cuts.{words_after}
 use Rattle.ltx_script.proofs.Parts.{alone_more}
 use Rattle.ltx_script.proofs.cuts.alone.Goals as goal
 

@@ -1,6 +1,7 @@
 use Rattle.std.proofs.Common.{◌≡◌, drop}
 use Rattle.std.specs.List.{list_all}
-use Rattle.ltx_script.specs.Lines.{words_of, is_word}
+use Rattle.ltx_script.specs.Lines.{is_word}
+use Rattle.ltx_text.specs.Cuts.{words_of}
 use Rattle.ltx_script.proofs.Parts.{are_rest}
 use Rattle.ltx_script.proofs.cuts.are_words.Given as goal
 

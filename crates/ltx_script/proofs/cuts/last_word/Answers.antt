@@ -1,5 +1,5 @@
 use Rattle.std.proofs.Common.{◌∙◌, ap, sym, option_copied}
-use Rattle.ltx_script.specs.Lines.{words_after}
+use Rattle.ltx_text.specs.Cuts.{words_after}
 use Rattle.ltx_script.specs.Readers.{last_word}
 use Rattle.ltx_script.proofs.LastWord.{plain_last}
 use Rattle.ltx_script.proofs.cuts.last_word.Goals as goal

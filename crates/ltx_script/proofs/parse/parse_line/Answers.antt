@@ -1,5 +1,5 @@
 use Rattle.std.proofs.Common.{option_copied}
-use Rattle.ltx_script.specs.Lines.{words_after}
+use Rattle.ltx_text.specs.Cuts.{words_after}
 use Rattle.ltx_script.proofs.Answered.{long_answer, good_answer, bad_answer}
 use Rattle.ltx_script.proofs.parse.parse_line.Goals as goal
 

@@ -1,5 +1,5 @@
 use Rattle.std.proofs.Common.{subst, sym, ◌∙◌}
-use Rattle.ltx_text.specs.Words.{AreBytes}
+use Rattle.ltx_model.specs.Limits.{AreBytes}
 use Rattle.ltx_text.proofs.WordLemmas.{word_spelling_injective}
 use Rattle.ltx_text.proofs.WordReadings.{no_bytes, bytes_again}
 use Rattle.ltx_text.proofs.words.decode_word.Goals as goal

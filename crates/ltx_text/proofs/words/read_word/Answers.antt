@@ -1,6 +1,7 @@
 use Rattle.std.proofs.Common.{◌≡◌, ◌≢◌, ◌∷◌, [], ◌<◌, ℕ, List, Result, Ok, Err, Option, Some, None, Vec, Global, IfOk, IfNone, ◌∙◌, sym, ap, arith, length, rules}
 use Rattle.ltx_model.specs.declared.memory.NoMemory.{NoMemory}
-use Rattle.ltx_text.specs.Words.{AreBytes, spellings, word_of}
+use Rattle.ltx_text.specs.Words.{spellings, word_of}
+use Rattle.ltx_model.specs.Limits.{AreBytes}
 use Rattle.ltx_text.proofs.WordLemmas.{is_other, plain_word, word_is_some, word_of_others}
 use Rattle.ltx_text.proofs.words.read_word.Goals as goal
 

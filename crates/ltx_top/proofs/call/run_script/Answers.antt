@@ -1,5 +1,5 @@
 use Rattle.std.proofs.Common.{◌≡◌, [], arith, subst, sym}
-use Rattle.ltx_model.specs.States.{Base, IsSound, base_of}
+use Rattle.ltx_model.specs.States.{Base, base_of}
 use Rattle.ltx_core.specs.Stands.{StandsFor}
 use Rattle.ltx_top.specs.Hands.{hand_of}
 use Rattle.ltx_top.specs.Runs.{devices}
@@ -14,8 +14,8 @@ returns-in-Err-clause-stops g c =
 
 pub work-requires : goal.work-requires
 work-requires g c =
-    let is : base_of c.no_rows.result 17 ≡ empty_base = c.no_rows.ensures in
-    let stands = subst (λ (b : Base). StandsFor c.in-Ok.runner.responder.core b []) is (c.in-Ok.ensures.core 17 (subst IsSound (sym is) empty_sound)) in
+    let is : base_of c.blank.result 17 ≡ empty_base = search rules in
+    let stands = subst (λ (b : Base). StandsFor c.in-Ok.runner.responder.core b []) is (c.in-Ok.ensures.core 17) in
     record {
       under_way = (
         record { base = empty_base; old = devices (g.S.Source.left c.args.source.now) (g.S.Source.reads c.args.source.now) (g.K.Sink.written c.args.sink.now) },
@@ -25,14 +25,14 @@ work-requires g c =
 
 pub returns-in-Err-work-clause-stops : goal.returns-in-Err-work-clause-stops
 returns-in-Err-work-clause-stops g c =
-    let is : base_of c.no_rows.result 17 ≡ empty_base = c.no_rows.ensures in
-    let stands = subst (λ (b : Base). StandsFor c.in-Ok.runner.responder.core b []) is (c.in-Ok.ensures.core 17 (subst IsSound (sym is) empty_sound)) in
+    let is : base_of c.blank.result 17 ≡ empty_base = search rules in
+    let stands = subst (λ (b : Base). StandsFor c.in-Ok.runner.responder.core b []) is (c.in-Ok.ensures.core 17) in
     let now = devices (g.S.Source.left c.args.source.now) (g.S.Source.reads c.args.source.now) (g.K.Sink.written c.args.sink.now) in
     c.in-Err-work.ensures.stops (record { base = empty_base; old = now }) (started_with empty_base now (hand_of c.in-Ok.runner) empty_sound c.in-Ok.ensures.lines stands c.in-Ok.ensures.text c.in-Ok.ensures.malformed)
 
 pub returns-clause-ran : goal.returns-clause-ran
 returns-clause-ran g c =
-    let is : base_of c.no_rows.result 17 ≡ empty_base = c.no_rows.ensures in
-    let stands = subst (λ (b : Base). StandsFor c.in-Ok.runner.responder.core b []) is (c.in-Ok.ensures.core 17 (subst IsSound (sym is) empty_sound)) in
+    let is : base_of c.blank.result 17 ≡ empty_base = search rules in
+    let stands = subst (λ (b : Base). StandsFor c.in-Ok.runner.responder.core b []) is (c.in-Ok.ensures.core 17) in
     let now = devices (g.S.Source.left c.args.source.now) (g.S.Source.reads c.args.source.now) (g.K.Sink.written c.args.sink.now) in
     c.in-Ok-work.ensures.ran (record { base = empty_base; old = now }) (started_with empty_base now (hand_of c.in-Ok.runner) empty_sound c.in-Ok.ensures.lines stands c.in-Ok.ensures.text c.in-Ok.ensures.malformed)

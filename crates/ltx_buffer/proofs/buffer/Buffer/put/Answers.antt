@@ -1,7 +1,7 @@
 use Rattle.std.proofs.Common.{sym, subst, ◌∙◌}
 use Rattle.ltx_model.specs.Keys.{IsRising}
 use Rattle.ltx_model.specs.Operations.{cell_of_write}
-use Rattle.ltx_lemmas.proofs.Rising.{rising_put}
+use Rattle.ltx_model.proofs.Rising.{rising_put}
 use Rattle.ltx_buffer.proofs.Search.{put_found, put_gap}
 use Rattle.ltx_buffer.proofs.buffer.Buffer.put.Goals as goal
 

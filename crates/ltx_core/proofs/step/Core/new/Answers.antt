@@ -1,12 +1,12 @@
-use Rattle.std.proofs.Common.{◌≡◌, ◌+◌, arith, ap}
+use Rattle.std.proofs.Common.{◌≡◌, ◌+◌, ◌∙◌, ap}
 use Rattle.ltx_core.proofs.Standing.{new_stands}
 use Rattle.ltx_model.specs.States.{base_of}
 use Rattle.ltx_core.proofs.step.Core.new.Goals as goal
 
 pub returns : goal.returns
 returns c = record {
-  stands = λ gate sound.
-      let durable : c.min-durable.result ≡ c.args.base.epoch = omega (arith, c.min-durable.ensures, sound.durable) in
-      let last : c.min.result ≡ c.args.base.last = omega (arith, c.min.ensures, sound.last) in
-      new_stands (base_of c.args.base gate) _ c.in_ok-load.ensures.rows c.in_ok-load.ensures.versions c.new.ensures.items c.new-2.ensures.items (ap (λ n. n + 1) durable) durable last;
+  stands = λ gate.
+      new_stands (base_of c.args.base gate) _ (c.in_ok-load.ensures.rows ∙ c.into_rows.ensures.value)
+      (subst (λ rows. (cell : Cell) → AllByRecursion (IsOfBase rows cell) (versions_at c.in_ok-load.store cell)) c.into_rows.ensures.value c.in_ok-load.ensures.versions)
+      c.new.ensures.items c.new-2.ensures.items (ap (λ n. n + 1) c.epoch.ensures.value) c.epoch.ensures.value c.last.ensures.value;
 }
