@@ -1,4 +1,4 @@
-use Rattle.std.proofs.Common.{◌≡◌, [], arith, subst, sym}
+use Rattle.std.proofs.Common.{◌≡◌, [], arith, rules, subst, sym}
 use Rattle.ltx_model.specs.States.{Base, base_of}
 use Rattle.ltx_core.specs.Stands.{StandsFor}
 use Rattle.ltx_top.specs.Hands.{hand_of}
