@@ -96,7 +96,7 @@ impl Run {
     }
 }
 
-// How many of the older versions are seen at no mark from this one on.
+/// How many of the older versions are seen at no mark from this one on.
 fn count_hidden(older: &[Version], newest: &Option<Version>, mark: u64) -> usize
     requires { IsRun older.now newest.now }
     ensures within { result ≤ length older.now }
@@ -109,7 +109,7 @@ fn count_hidden(older: &[Version], newest: &Option<Version>, mark: u64) -> usize
     }
 }
 
-// There is a version, and it has at most this mark.
+/// There is a version, and it has at most this mark.
 fn is_seen(newest: &Option<Version>, mark: u64) -> bool
     ensures { result ≡ sees mark newest.now }
 {
@@ -119,7 +119,7 @@ fn is_seen(newest: &Option<Version>, mark: u64) -> bool
     }
 }
 
-// The last version that has at most this mark.
+/// The last version that has at most this mark.
 fn seen(versions: &[Version], mark: u64) -> Option<&Version>
     requires { IsRising versions.now }
     ensures { option_copied result ≡ visible mark versions.now }
@@ -127,7 +127,7 @@ fn seen(versions: &[Version], mark: u64) -> Option<&Version>
     versions[..count_seen(versions, mark)].last()
 }
 
-// How many versions have at most this mark.
+/// How many versions have at most this mark.
 fn count_seen(versions: &[Version], mark: u64) -> usize
     requires { IsRising versions.now }
     ensures count { result ≡ length (filter (is_at_most mark) versions.now) }

@@ -1,9 +1,9 @@
 -- A short that is committed or refused at its commit.
-use Rattle.std.proofs.Common.{◌≡◌, ℕ, ◌+◌, List, [], ◌∷◌, ◌++◌, map, length, remove, Option, Some, None, refl, sym, ap, ◌∙◌, subst}
+use Rattle.std.proofs.Common.{◌≡◌, ℕ, ◌+◌, ◌≤◌, ◌<◌, List, [], ◌∷◌, ◌++◌, map, length, Option, Some, None, refl, sym, ap, ◌∙◌, subst, arith}
 use Rattle.std.proofs.lemmas.List.{map-append, length-append, length-map}
 use Rattle.std.specs.List.{AllByRecursion}
+use Rattle.ltx_model.specs.declared.commands.Command.{Command}
 use Rattle.ltx_model.specs.declared.commands.Command.TheVariants as commands
-use Rattle.ltx_model.specs.declared.commands.Line.{Line}
 use Rattle.ltx_model.specs.declared.commands.Line.TheVariants as lines
 use Rattle.ltx_model.specs.declared.commands.Verb.TheVariants as verbs
 use Rattle.ltx_model.specs.declared.replies.Entry.{Entry}
@@ -13,12 +13,12 @@ use Rattle.ltx_model.specs.declared.rows.StoredRow.{StoredRow}
 use Rattle.ltx_model.specs.declared.writes.Write.{Write}
 use Rattle.ltx_model.specs.Keys.{Cell, IsRising}
 use Rattle.ltx_model.specs.StoredRows.{cell_of}
-use Rattle.ltx_model.specs.Lists.{without_first}
 use Rattle.ltx_model.specs.Operations.{Transaction, operations, writes_of}
 use Rattle.ltx_model.specs.Rows.{rows_after_all, run, rows_after_writes}
 use Rattle.ltx_model.specs.Agenda.{Committed, CommitShort, Timed, commit_of, commits_of, serial}
-use Rattle.ltx_model.specs.States.{Step, Active, Base, State, transaction_of, answered_of, is_of, active_of, latest}
-use Rattle.ltx_model.specs.Histories.{to_active, closed, moved, committed, commit_move, ended, left, state}
+use Rattle.ltx_model.specs.Notes.{AreNotes}
+use Rattle.ltx_model.specs.States.{Step, Active, Base, IsSound, State, transaction_of, answered_of, active_of, latest}
+use Rattle.ltx_model.specs.Histories.{to_active, closed, moved, committed, commit_move, state}
 use Rattle.ltx_model.specs.Shorts.{Change, first_change}
 use Rattle.ltx_model.specs.Answers.{checked, commit_in, commit_short, commit}
 use Rattle.ltx_model.proofs.OneMore.{run-push}
@@ -28,139 +28,151 @@ use Rattle.ltx_lemmas.proofs.Serials.{serial_push}
 use Rattle.ltx_buffer.specs.Own.{write_at}
 use Rattle.ltx_chain.specs.declared.chain.Version.{Version}
 use Rattle.ltx_chain.specs.Versions as versions
-use Rattle.ltx_store.specs.Kept.{Kept, versions_at, HasSameVersions}
+use Rattle.ltx_store.specs.Kept.{Kept, versions_at, rows_at, latest_rows, HasSameVersions}
 use Rattle.ltx_validate.specs.Verdicts.{IsVerdict}
-use Rattle.ltx_core.specs.Views.{ShortView, CoreView, is_session}
-use Rattle.ltx_core.specs.Places.{IsFirst}
-use Rattle.ltx_core.specs.Events.{version_by, HasInstalled, HasCommitted, with_active, without_short}
-use Rattle.ltx_core.specs.Outcomes.{Decides, Commits}
-use Rattle.ltx_core.specs.Stands.{IsDeletion, IsOpen, AreOpen, HasMark}
-use Rattle.ltx_core.proofs.FirstPlace.{at_place, without_first_at}
+use Rattle.ltx_core.specs.Views.{OpenView, CoreView}
+use Rattle.ltx_core.specs.Slots.{opened, HasAt}
+use Rattle.ltx_core.specs.Installed.{version_by, HasInstalled}
+use Rattle.ltx_core.specs.Commits.{HasCommitted}
+use Rattle.ltx_core.specs.Same.{IsSame}
+use Rattle.ltx_core.specs.Stands.{IsDeletion, HasMark, HasOpens, StandsAt, StandsFor}
+use Rattle.ltx_core.specs.Steps.{Steps}
 use Rattle.ltx_core.proofs.Installed.{marks_installed, deletions_installed, rows_installed}
-use Rattle.ltx_core.proofs.Stays.{StandsAt}
-use Rattle.ltx_core.proofs.Moments.{longer_at, Leads}
-use Rattle.ltx_core.proofs.Opens.{FoundBoth, opens_without, opens_shorts, no_held}
+use Rattle.ltx_core.proofs.OpensKept.{FoundOpen, opens_ended, opens_later, opens_shorts}
+use Rattle.ltx_core.proofs.RisingRows.{latest_rising}
+use Rattle.ltx_core.proofs.ShortsAlone.{no_held}
+use Rattle.ltx_core.proofs.StandsStill.{longer, leads}
+use Rattle.ltx_core.proofs.Ended.{staged_is, with_opens, stays, none_open, some_open, ended_stands}
 
 -- room that was made before changes nothing of what is installed
 pub installed_after : (old room new : List Kept) (writer mark : ℕ) (writes : List Write) → HasSameVersions old room → HasInstalled room new writer mark writes → HasInstalled old new writer mark writes
 installed_after old room new writer mark writes same done = record {
   rows = done.rows ∙ ap (λ r. rows_after_writes writer r writes) same.latest;
+  before = λ m less. done.before m less ∙ same.rows m;
   versions = λ cell. done.versions cell ∙ ap (λ l. l ++ version_by writer mark (write_at writes cell)) (same.versions cell);
 }
 
 -- the operations of a short's steps are those of its transaction
-pub ops_answered : (steps : List Step) → map (λ a. a.op) (map answered_of steps) ≡ map (λ b. b.op) steps
+ops_answered : (steps : List Step) → map (λ a. a.op) (map answered_of steps) ≡ map (λ b. b.op) steps
 ops_answered [] = refl
 ops_answered (b ∷ bs) = ap (λ l. b.op ∷ l) (ops_answered bs)
 
 -- a verdict is the first change of the state
-pub verdict_is : (now : List StoredRow) (steps : List Step) → AllByRecursion (λ (b : Step). IsRising cell_of b.latest) steps → (change : Option Change) → IsVerdict now steps change → first_change now steps ≡ change
+verdict_is : (now : List StoredRow) (steps : List Step) → AllByRecursion (λ (b : Step). IsRising cell_of b.latest) steps → (change : Option Change) → IsVerdict now steps change → first_change now steps ≡ change
 verdict_is now steps rising (Some c) first = first_change_found now steps rising c first
 verdict_is now steps rising None none = by_found (first_change now steps) refl where
   by_found : (o : Option Change) → first_change now steps ≡ o → o ≡ None
   by_found None e = refl
   by_found (Some c) e = absurd (none c (first_change_is now steps rising c e).changes)
 
-module _ (base : Base) (history : List Entry) (old : CoreView) (at : StandsAt old base history (state base history)) where
+abbrev commits_at : ℕ → Command
+commits_at session = commands.Ask session verbs.Commit
+
+-- the verdict on what a session's short noted
+abbrev pub JudgedBy : CoreView → OpenView → Option Change → Type 0
+JudgedBy old a change = (steps : List Step) → AreNotes steps a.notes.notes → IsVerdict (latest_rows old.store) steps change
+
+-- the session has no open transaction
+pub commit_none : (old : CoreView) (session : ℕ) → opened old.opens session ≡ None → IsSame old old → Steps old (commits_at session) replies.NoTx old
+commit_none old session none same base history sound stands =
+    let s : State = state base history in
+    stays old old (commits_at session) replies.NoTx base history same stands replies.NoTx
+    (ap (commit s) (sym (none_open old session base history stands none)) ∙ staged_is s (commits_at session)) refl refl
+
+module _ (old : CoreView) (session : ℕ) (a : OpenView) (here : opened old.opens session ≡ Some a) (base : Base) (history : List Entry) (sound : IsSound base) (stands : StandsFor old base history) where
   abbrev s : State
   s = state base history
 
-  -- the session has no open transaction any more
-  closed_stands : (session : ℕ) (more : List Entry) → StandsAt (without_short old session) base (history ++ more) (closed s session)
-  closed_stands session more = longer_at (without_short old session) base history more (closed s session) (record {
-    epoch = at.epoch;
-    durable = at.durable;
-    last = at.last;
-    order = at.order;
-    rows = at.rows;
-    deletions = at.deletions;
-    marks = at.marks;
-    commits = at.commits;
-    active = opens_without base history session s.active old.active at.active;
-  })
+  rising : IsRising cell_of (latest s)
+  rising = latest_rising base history sound
 
-  module _ (session : ℕ) (o : Active) (is : active_of s session ≡ Some o) (a : ShortView) (opened : IsOpen base history o a) where
-    pub ended_stands : (more : List Entry) → StandsAt (without_short old session) base (history ++ more) (to_active s (active_of s session) (λ u. ended s u session))
-    ended_stands more =
-        subst (λ f. StandsAt (without_short old session) base (history ++ more) (to_active s f (λ u. ended s u session))) (sym is)
-        (subst (λ k. StandsAt (without_short old session) base (history ++ more) (left (closed s session) k o.number)) (sym opened.short) (closed_stands session more))
+  found : FoundOpen old.store old.commits base history old.opens s.active stands.opens session a
+  found = some_open old session base history stands a here
 
-    -- a committed short stands last, and its writes are installed
-    module _ (place : ℕ) (first : IsFirst (is_session session) old.active place) (new : CoreView) (done : HasCommitted old place a new) (rising : IsRising cell_of (latest s)) where
-      t : Transaction
-      t = transaction_of o
+  abbrev o : Active
+  o = found.open_tx
 
-      after : State
-      after = moved (closed s session) s.epoch (CommitShort t)
+  -- the state's reply, by the verdict
+  replied : (change : Option Change) → JudgedBy old a change → checked s change ≡ commit s (active_of s session)
+  replied change judged =
+      let verdict : IsVerdict (latest s) o.steps change = subst (λ rows. IsVerdict rows o.steps change) stands.store.rows (judged o.steps found.is_open.notes) in
+      sym (ap (commit s) found.found ∙ ap (λ k. commit_in s k o) found.is_open.short
+      ∙ ap (λ h. commit_short s h o) (no_held s (opens_shorts old.store old.commits base history old.opens s.active stands.opens) (operations (transaction_of o)))
+      ∙ ap (checked s) (verdict_is (latest s) o.steps found.is_open.rising change verdict))
 
-      shorter : new.active ≡ without_first (is_session session) old.active
-      shorter = let found = at_place old.active place first.within in done.active ∙ sym (without_first_at (is_session session) old.active place found.0 first found.1)
+  -- a committed short stands last, and its writes are installed
+  module _ (new : CoreView) (done : HasCommitted old session a new) where
+    t : Transaction
+    t = transaction_of o
 
-      mark_is : length old.order + 1 ≡ length (map (λ u. u.number) (commits_of s.moves)) + 1
-      mark_is = ap (λ n. n + 1) (sym at.commits ∙ sym (length-map (commits_of s.moves) (λ (u : Transaction). u.number)))
+    after : State
+    after = moved (closed s session) s.epoch (CommitShort t)
 
-      own_is : a.own.writes ≡ writes_of (operations t)
-      unfolding t
-      own_is = opened.own ∙ ap writes_of (sym (ops_answered o.steps))
+    own_is : a.own.writes ≡ writes_of (operations t)
+    unfolding t
+    own_is = found.is_open.own ∙ ap writes_of (sym (ops_answered o.steps))
 
-      moves_is : commits_of (s.moves ++ record { epoch = s.epoch; move = CommitShort t } ∷ []) ≡ commits_of s.moves ++ t ∷ []
-      moves_is = given_append (λ (m : Timed). commit_of m.move) s.moves (record { epoch = s.epoch; move = CommitShort t } ∷ [])
+    number_is : t.number ≡ a.number
+    unfolding t
+    number_is = sym found.is_open.number
 
-      numbers_is : map (λ u. u.number) (commits_of (s.moves ++ record { epoch = s.epoch; move = CommitShort t } ∷ [])) ≡ map (λ u. u.number) (commits_of s.moves) ++ a.tx.tx ∷ []
-      unfolding t
-      numbers_is = ap (map (λ u. u.number)) moves_is ∙ map-append (λ (u : Transaction). u.number) (commits_of s.moves) (t ∷ []) ∙ ap (λ n. map (λ u. u.number) (commits_of s.moves) ++ n ∷ []) (sym opened.number)
+    moves_is : commits_of (s.moves ++ record { epoch = s.epoch; move = CommitShort t } ∷ []) ≡ commits_of s.moves ++ t ∷ []
+    moves_is = given_append (λ (m : Timed). commit_of m.move) s.moves (record { epoch = s.epoch; move = CommitShort t } ∷ [])
 
-      serial_is : serial (s.agenda ++ Committed t ∷ []) ≡ serial s.agenda ++ t ∷ []
-      serial_is = serial_push s.agenda t
+    numbers_is : map (λ u. u.number) (commits_of (s.moves ++ record { epoch = s.epoch; move = CommitShort t } ∷ [])) ≡ map (λ u. u.number) (commits_of s.moves) ++ a.number ∷ []
+    numbers_is = ap (map (λ u. u.number)) moves_is ∙ map-append (λ (u : Transaction). u.number) (commits_of s.moves) (t ∷ []) ∙ ap (λ n. map (λ u. u.number) (commits_of s.moves) ++ n ∷ []) number_is
 
-      accepted_now : StandsAt new base history after
-      unfolding t after
-      accepted_now = record {
-        epoch = done.epoch ∙ at.epoch;
-        durable = done.durable ∙ at.durable;
-        last = done.last ∙ at.last;
-        order = done.order ∙ (λ i. at.order i ++ opened.number i ∷ []) ∙ sym (ap (map (λ u. u.number)) serial_is ∙ map-append (λ (u : Transaction). u.number) (serial s.agenda) (t ∷ []));
-        rows = rows_installed old.store new.store a.tx.tx (length old.order + 1) a.own.writes (operations t) own_is (subst (IsRising cell_of) (sym at.rows) rising) done.installed
-            ∙ (λ i. rows_after_all (opened.number i) (at.rows i) (operations t)) ∙ sym (ap (run s.base) serial_is ∙ run-push s.base (serial s.agenda) t);
+    mark_is : old.commits + 1 ≡ length (map (λ u. u.number) (commits_of s.moves)) + 1
+    mark_is = ap (λ n. n + 1) (stands.order.count_is ∙ sym (length-map (commits_of s.moves) (λ (u : Transaction). u.number)))
+
+    serial_is : serial (s.agenda ++ Committed t ∷ []) ≡ serial s.agenda ++ t ∷ []
+    serial_is = serial_push s.agenda t
+
+    opens_now : HasOpens new.store new.commits base history new.opens (closed s session).active
+    opens_now =
+        let more : new.commits ≡ old.commits + 1 = done.commits in
+        opens_ended new.store new.commits base history old.opens s.active
+        (opens_later old.store old.commits base history old.opens s.active stands.opens new.store new.commits (omega arith) (λ m within. done.installed.before m (omega arith)))
+        session o new.opens found.found done.opens
+
+    accepted_now : StandsAt new base history after
+    unfolding after
+    accepted_now = record {
+      counters = done.counters ∙ stands.counters;
+      order = record {
+        members_are = done.order ∙ (λ i. stands.order.members_are i ++ sym number_is i ∷ []) ∙ sym (ap (map (λ u. u.number)) serial_is ∙ map-append (λ (u : Transaction). u.number) (serial s.agenda) (t ∷ []));
+        count_is = done.commits ∙ ap (λ n. n + 1) stands.order.count_is ∙ sym (ap length moves_is ∙ length-append (commits_of s.moves) (t ∷ []));
+      };
+      store = record {
+        rows = rows_installed old.store new.store a.number (old.commits + 1) a.own.writes (operations t) own_is (subst (IsRising cell_of) (sym stands.store.rows) rising) done.installed
+            ∙ (λ i. rows_after_all (sym number_is i) (stands.store.rows i) (operations t)) ∙ sym (ap (run s.base) serial_is ∙ run-push s.base (serial s.agenda) t);
         deletions = subst (λ ts. (cell : Cell) (v : Version) → versions.latest (versions_at new.store cell) ≡ Some v → v.put ≡ None → IsDeletion ts cell v.writer) (sym serial_is)
-            (deletions_installed old.store new.store (serial s.agenda) t a.tx.tx (length old.order + 1) a.own.writes own_is (sym opened.number) done.installed at.deletions);
+            (deletions_installed old.store new.store (serial s.agenda) t a.number (old.commits + 1) a.own.writes own_is number_is done.installed stands.store.deletions);
         marks = subst (λ ns. (cell : Cell) → AllByRecursion (HasMark base.rows ns cell) (versions_at new.store cell)) (sym numbers_is)
-            (marks_installed base.rows old.store new.store (map (λ u. u.number) (commits_of s.moves)) a.tx.tx (length old.order + 1) a.own.writes mark_is done.installed at.marks);
-        commits = ap length moves_is ∙ length-append (commits_of s.moves) (t ∷ []) ∙ ap (λ n. n + 1) at.commits ∙ sym (ap length done.order ∙ length-append old.order (a.tx.tx ∷ []));
-        active = subst (AreOpen base history (without_first (is_of session) s.active)) (sym shorter) (opens_without base history session s.active old.active at.active);
-      }
+            (marks_installed base.rows old.store new.store (map (λ u. u.number) (commits_of s.moves)) a.number (old.commits + 1) a.own.writes mark_is done.installed stands.store.marks);
+      };
+      opens = opens_now;
+    }
 
-      pub accepted_stands : (more : List Entry) → StandsAt new base (history ++ more) (to_active s (active_of s session) (λ u. committed s u session))
-      unfolding t after
-      accepted_stands more =
-          subst (λ f. StandsAt new base (history ++ more) (to_active s f (λ u. committed s u session))) (sym is)
-          (subst (λ k. StandsAt new base (history ++ more) (moved (closed s session) s.epoch (commit_move k (transaction_of o)))) (sym opened.short) (longer_at new base history more (moved (closed s session) s.epoch (CommitShort (transaction_of o))) accepted_now))
+    accepted_stands : (more : List Entry) → StandsAt new base (history ++ more) (to_active s (active_of s session) (λ u. committed s u session))
+    unfolding t after
+    accepted_stands more =
+        subst (λ f. StandsAt new base (history ++ more) (to_active s f (λ u. committed s u session))) (sym found.found)
+        (subst (λ k. StandsAt new base (history ++ more) (moved (closed s session) s.epoch (commit_move k (transaction_of o)))) (sym found.is_open.short)
+        (longer new base history more (moved (closed s session) s.epoch (CommitShort (transaction_of o))) accepted_now))
 
-  abbrev line : ℕ → Line
-  line session = lines.Good (commands.Ask session verbs.Commit)
+-- the short is refused by a change
+pub commit_changed : (old : CoreView) (session : ℕ) (a : OpenView) (c : Change) (opens : List (Option OpenView)) → opened old.opens session ≡ Some a → JudgedBy old a (Some c) → HasAt old.opens session None opens
+    → Steps old (commits_at session) (replies.Changed c.op c.cell.table c.cell.key c.found c.current) (with_opens old opens)
+commit_changed old session a c opens here judged at base history sound stands =
+    leads base history (lines.Good (commits_at session)) (replies.Changed c.op c.cell.table c.cell.key c.found c.current) (replies.Changed c.op c.cell.table c.cell.key c.found c.current) (with_opens old opens)
+    (replied old session a here base history sound stands (Some c) judged ∙ staged_is (state base history) (commits_at session)) refl (ended_stands old session base history stands a opens here at)
 
-  -- commit of a short
-  pub commit_step : (session : ℕ) (o : Option Active) (a : Option ShortView) (reply : Reply) (new : CoreView) → active_of s session ≡ o → FoundBoth base history o a → IsRising cell_of (latest s)
-      → Commits old session a reply new → Leads base history (line session) (commit s o) reply new
-  commit_step session None None reply new is both rising does = record { reply_is = does.0; stands = λ more. subst (λ c. StandsAt c base (history ++ more) s) (sym does.1) (longer_at old base history more s at) }
-  commit_step session None (Some a) reply new is both rising does = absurd both
-  commit_step session (Some o) None reply new is both rising does = absurd both
-  commit_step session (Some o) (Some a) reply new is opened rising does =
-      subst (λ k. Leads base history (line session) (commit_in s k o) reply new) (sym opened.short)
-      (subst (λ h. Leads base history (line session) (commit_short s h o) reply new) (sym (no_held s (opens_shorts base history s.active old.active at.active) (operations (transaction_of o))))
-      (subst (λ c. Leads base history (line session) (checked s c) reply new) (sym (verdict_is (latest s) o.steps opened.rising does.decided.change verdict)) (by_change does.decided.change does.decided.decides))) where
-        verdict : IsVerdict (latest s) o.steps does.decided.change
-        verdict = subst (λ rows. IsVerdict rows o.steps does.decided.change) at.rows (does.decided.verdict o.steps opened.notes)
-
-        removed : remove old.active does.place ≡ without_first (is_session session) old.active
-        removed = let found = at_place old.active does.place does.first.within in sym (without_first_at (is_session session) old.active does.place found.0 does.first found.1)
-
-        by_change : (change : Option Change) → Decides change old does.place a reply new → Leads base history (line session) (checked s change) reply new
-        by_change (Some c) decides = record {
-          reply_is = decides.0;
-          stands = λ more. subst (λ core. StandsAt core base (history ++ more) (to_active s (active_of s session) (λ u. ended s u session))) (sym (decides.1 ∙ ap (with_active old) removed)) (ended_stands session o is a opened more);
-        }
-        by_change None decides = record {
-          reply_is = decides.0 ∙ ap replies.Committed at.epoch;
-          stands = λ more. accepted_stands session o is a opened does.place does.first new decides.1 rising more;
-        }
+-- the short is committed
+pub commit_passed : (old : CoreView) (session : ℕ) (a : OpenView) (reply : Reply) (new : CoreView) → opened old.opens session ≡ Some a → JudgedBy old a None → reply ≡ replies.Committed old.counters.epoch → HasCommitted old session a new
+    → Steps old (commits_at session) reply new
+commit_passed old session a reply new here judged says done base history sound stands =
+    let s : State = state base history in
+    leads base history (lines.Good (commits_at session)) (replies.Committed s.epoch) reply new
+    (replied old session a here base history sound stands None judged ∙ staged_is s (commits_at session))
+    (says ∙ ap (λ c. replies.Committed c.epoch) stands.counters) (accepted_stands old session a here base history sound stands new done)

@@ -20,9 +20,9 @@ use Rattle.ltx_buffer.proofs.Keys.{is_own}
 use Rattle.ltx_chain.specs.declared.chain.Version.{Version}
 use Rattle.ltx_chain.specs.Versions.{Versions, AreBelow, latest}
 use Rattle.ltx_chain.proofs.Seen.{latest-append}
-use Rattle.ltx_store.specs.Kept.{Kept, chain_at, items_of, room_of, installed, versions_at, room_at, latest_rows, rows_with, row_of_write, with_version, AreUpTo}
+use Rattle.ltx_store.specs.Kept.{Kept, chain_at, items_of, room_of, installed, versions_at, room_at, rows_at, latest_rows, rows_with, row_of_write, with_version, AreUpTo}
 use Rattle.ltx_store.proofs.Changes.{chain_installed, above_up_to, up_to_more, up_to_installed}
-use Rattle.ltx_core.specs.Events.{version_by, HasInstalled}
+use Rattle.ltx_core.specs.Installed.{version_by, HasInstalled}
 use Rattle.ltx_core.specs.Stands.{HasMark, IsDeletion}
 
 -- Of these writes the last ones are left to install, of keys that are as they were: with them the store is what it is to be.
@@ -31,6 +31,7 @@ pub record IsLeft (old now : List Kept) (writer mark : ℕ) (writes rest : List 
   pub room : AllByRecursion (λ w. 0 < room_at now (cell_of_write w)) rest
   pub below : AllByRecursion (λ w. AreBelow mark (versions_at now (cell_of_write w))) rest
   pub rows : rows_after_writes writer (latest_rows now) rest ≡ rows_after_writes writer (latest_rows old) writes
+  pub before : (m : ℕ) → m < mark → rows_at m now ≡ rows_at m old
   pub versions : (cell : Cell) → versions_at now cell ++ version_by writer mark (write_at rest cell) ≡ versions_at old cell ++ version_by writer mark (write_at writes cell)
   pub marks : AreUpTo mark now
 
@@ -42,6 +43,7 @@ all_left newest mark kept writer writes less all rising room = record {
   room = room;
   below = all_map (λ w. 0 < room_at kept (cell_of_write w)) (λ w. AreBelow mark (versions_at kept (cell_of_write w))) (λ w r. above_up_to newest mark kept (cell_of_write w) less all) writes room;
   rows = refl;
+  before = λ m less. refl;
   versions = λ q. refl;
   marks = up_to_more newest mark kept (omega arith) all;
 }
@@ -83,12 +85,14 @@ row_of_put writer rows w None e = rw e refl
 row_of_put writer rows w (Some value) e = rw e refl
 
 pub one_installed : (old now new : List Kept) (writer mark : ℕ) (writes : List Write) (w : Write) (rest : List Write) → IsLeft old now writer mark writes (w ∷ rest)
-    → new ≡ with_version writer mark w now → latest_rows new ≡ rows_with (cell_of_write w) (row_of_write writer w) (latest_rows now) → IsLeft old new writer mark writes rest
-one_installed old now new writer mark writes w rest left is rows = record {
+    → new ≡ with_version writer mark w now → latest_rows new ≡ rows_with (cell_of_write w) (row_of_write writer w) (latest_rows now)
+    → ((m : ℕ) → m < mark → rows_at m new ≡ rows_at m now) → IsLeft old new writer mark writes rest
+one_installed old now new writer mark writes w rest left is rows same = record {
   rising = left.rising.1;
   room = still writer mark w now new is (λ o. 0 < room_of o) rest left.rising.0 left.room.1;
   below = still writer mark w now new is (λ o. AreBelow mark (items_of o)) rest left.rising.0 left.below.1;
   rows = ap (λ r. rows_after_writes writer r rest) (rows ∙ row_of_put writer (latest_rows now) w w.put refl) ∙ left.rows;
+  before = λ m less. same m less ∙ left.before m less;
   versions = λ q. versions_step writer mark w now new is rest q left.rising.0 ∙ left.versions q;
   marks = subst (AreUpTo mark) (sym is) (up_to_installed mark writer mark w now (omega arith) left.marks);
 }

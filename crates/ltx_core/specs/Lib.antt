@@ -1,7 +1,10 @@
 pub mod Built
-pub mod Places
 pub mod Views
-pub mod Events
+pub mod Slots
 pub mod Seen
-pub mod Outcomes
+pub mod Operations
+pub mod Installed
+pub mod Same
 pub mod Stands
+pub mod Steps
+pub mod Commits

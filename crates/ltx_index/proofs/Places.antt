@@ -127,13 +127,13 @@ all_take P zero xs all = tt
 all_take P (suc n) [] all = tt
 all_take P (suc n) (x ∷ xs) all = (all.0, all_take P n xs all.1)
 
-in_order-take : (n : ℕ) (ks : List (List ℕ)) → IsStrictlySortedBy key_cmp ks → IsStrictlySortedBy key_cmp (take n ks)
+pub in_order-take : (n : ℕ) (ks : List (List ℕ)) → IsStrictlySortedBy key_cmp ks → IsStrictlySortedBy key_cmp (take n ks)
 unfolding IsStrictlySortedBy
 in_order-take zero ks s = tt
 in_order-take (suc n) [] s = tt
 in_order-take (suc n) (k ∷ ks) s = (all_take _ n ks s.0, in_order-take n ks s.1)
 
-in_order-drop : (n : ℕ) (ks : List (List ℕ)) → IsStrictlySortedBy key_cmp ks → IsStrictlySortedBy key_cmp (drop n ks)
+pub in_order-drop : (n : ℕ) (ks : List (List ℕ)) → IsStrictlySortedBy key_cmp ks → IsStrictlySortedBy key_cmp (drop n ks)
 unfolding IsStrictlySortedBy
 in_order-drop zero ks s = s
 in_order-drop (suc n) [] s = tt

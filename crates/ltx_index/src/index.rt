@@ -11,7 +11,8 @@ ghost use Rattle.ltx_index.specs.Pairs.{IsInOrder, value_at, with_value, with_pa
 ghost use Rattle.ltx_index.specs.Leaves.{AreLeaves, IsHome};
 ghost use Rattle.ltx_index.specs.contracts.index.Index.{the_row};
 
-use crate::leaf::{Leaf, falls_short};
+use crate::head::head;
+use crate::leaf::Leaf;
 use crate::walk::Walk;
 use ltx_model::bytes::Key;
 use std::alloc::Global;
@@ -112,8 +113,8 @@ impl<V: Drop> Index<V> {
         }
     }
 
-    // Puts the pair into the key's leaf. Where that is full, and for want of memory, it hands the
-    // pair of a new key back.
+    /// Puts the pair into the key's leaf. Where that is full, and for want of memory, it hands the
+    /// pair of a new key back.
     fn put(&mut self, key: Key, value: V) -> Result<Option<V>, (Key, V)>
         ensures old { IfOk result (λ before. before ≡ value_at self.old key) }
         ensures put { IfOk result (λ _. self.new ≡ with_pair self.old key value) }
@@ -129,7 +130,7 @@ impl<V: Drop> Index<V> {
         }
     }
 
-    // Splits the key's leaf where it is full; the pairs stay as they are.
+    /// Splits the key's leaf where it is full; the pairs stay as they are.
     fn make_room(&mut self, key: &Key)
         ensures { self.new ≡ self.old }
     {
@@ -161,17 +162,18 @@ impl<V: Drop> Index<V> {
     }
 }
 
-// The leaf that holds the bound's place: the last one that begins short of it, or the first leaf.
+/// The leaf that holds the bound's place: the last one that begins short of it, or the first leaf.
 fn home<V>(leaves: &[Leaf<V>], from: &[u8], strict: bool) -> usize
     requires { AreLeaves leaves.now }
     ensures { IsHome leaves.now from.now strict result }
 {
+    let of_from = head(from);
     leaves
-        .partition_point(|leaf| falls_short(leaf.first(), from, strict))
+        .partition_point(|leaf| leaf.begins_short(of_from, from, strict))
         .saturating_sub(1)
 }
 
-// The leaves from a place on.
+/// The leaves from a place on.
 fn behind<V>(leaves: &[Leaf<V>], at: usize) -> &[Leaf<V>]
     ensures { result.now ≡ drop at leaves.now }
 {
@@ -182,7 +184,7 @@ fn behind<V>(leaves: &[Leaf<V>], at: usize) -> &[Leaf<V>]
     later
 }
 
-// Puts the leaf into its place, where there is room for it.
+/// Puts the leaf into its place, where there is room for it.
 fn insert_leaf<V: Drop>(leaves: &mut Vec<Leaf<V>>, at: usize, leaf: Leaf<V>)
     requires in_range { at ≤ vec_len leaves.old }
     requires room { vec_len leaves.old < vec_capacity leaves.old }
@@ -191,7 +193,7 @@ fn insert_leaf<V: Drop>(leaves: &mut Vec<Leaf<V>>, at: usize, leaf: Leaf<V>)
     let _ = leaves.insert(at, leaf);
 }
 
-// Puts the pair into a leaf of its own after all others.
+/// Puts the pair into a leaf of its own after all others.
 fn push_leaf<V: Drop>(
     alloc: Global,
     leaves: &mut Vec<Leaf<V>>,

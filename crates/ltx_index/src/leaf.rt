@@ -11,12 +11,13 @@ ghost use Rattle.ltx_index.specs.Pairs.{IsInOrder, value_at, with_value, with_pa
 ghost use Rattle.ltx_model.specs.NextKeys.{reaches};
 ghost use Rattle.ltx_index.specs.Places.{IsFoundAt, IsGapAt, IsStartAt};
 ghost use Rattle.ltx_index.specs.Leaves.{first_key};
+ghost use Rattle.ltx_index.specs.Heads.{head_of};
 ghost use Rattle.ltx_index.specs.contracts.leaf.Leaf.{the_row};
 
-use ltx_model::bytes::{Key, compare_bytes};
+use crate::keys::Keys;
+use ltx_model::bytes::Key;
 use ltx_model::memory::NoMemory;
 use std::alloc::Global;
-use std::cmp::Ordering;
 use std::marker::Model;
 
 /// How many pairs a leaf holds at most, so that the cost of an insert does not grow with the map.
@@ -25,7 +26,7 @@ const MOST: usize = 128;
 /// A sorted run of pairs.
 #[derive(Debug, Drop)]
 pub struct Leaf<V> {
-    keys: Vec<Key>,
+    keys: Keys,
     values: Vec<V>,
 }
 
@@ -36,9 +37,9 @@ impl<V> Model for Leaf<V> {
 
     ghost Value = { List (List ℕ × V) };
 
-    ghost view = { λ l. zip l.keys.items l.values.items };
+    ghost view = { λ l. zip l.keys l.values.items };
 
-    ghost invariant = { λ l. IsRun l.keys.items l.values.items };
+    ghost invariant = { λ l. IsRun l.keys l.values.items };
 }
 
 impl<V> Leaf<V> {
@@ -49,27 +50,32 @@ impl<V> Leaf<V> {
         ensures leaf { IfOk result (λ leaf. leaf ≡ (key, value) ∷ []) }
         ensures back { IfErr result (λ pair. pair ≡ (key, value)) }
     {
-        let mut keys = Vec::new(alloc);
         let mut values = Vec::new(alloc);
-        put_at(&mut keys, &mut values, 0, key, value)?;
-        Ok(Leaf { keys, values })
+        if values.reserve(1).is_err() {
+            return Err((key, value));
+        }
+        match Keys::of_key(alloc, key) {
+            Ok(keys) => {
+                values.push_reserved(value);
+                Ok(Leaf { keys, values })
+            }
+            Err(key) => Err((key, value)),
+        }
     }
 
     /// Whether there is no pair.
     pub fn is_empty(&self) -> bool
         ensures { IsTrue result ↔ (length self.now ≡ 0) }
     {
-        self.keys.is_empty()
+        self.keys.len() == 0
     }
 
-    /// The first key's bytes; none where the run is empty.
-    pub fn first(&self) -> &[u8]
-        ensures { result.now ≡ first_key self.now }
+    /// The run begins below the bound, or at it where strict. The bound's head is at hand.
+    pub fn begins_short(&self, of_from: u64, from: &[u8], strict: bool) -> bool
+        requires { of_from ≡ head_of from.now }
+        ensures { result ≡ not (reaches from.now strict (first_key self.now)) }
     {
-        match self.keys.first() {
-            Some(key) => key.bytes(),
-            None => &[],
-        }
+        self.keys.begins_short(of_from, from, strict)
     }
 
     /// The value at the key.
@@ -77,7 +83,7 @@ impl<V> Leaf<V> {
         ensures value { option_copied result ≡ value_at self.now key.now }
         ensures in_order { IsInOrder self.now }
     {
-        match place(&self.keys, key) {
+        match self.keys.place(key) {
             Ok(at) => self.values.get(at),
             Err(_) => None,
         }
@@ -89,7 +95,7 @@ impl<V> Leaf<V> {
         ensures value { option_copied_mut result ≡ value_at self.old key.now }
         ensures in_order { IsInOrder self.old }
     {
-        match place(&self.keys, key) {
+        match self.keys.place(key) {
             Ok(at) => self.values.get_mut(at),
             Err(_) => None,
         }
@@ -100,8 +106,8 @@ impl<V> Leaf<V> {
     pub fn parts_from(&self, from: &[u8], strict: bool) -> (&[Key], &[V])
         ensures parts { zip result.0.now result.1.now ≡ pairs_from self.now from.now strict }
     {
-        let at = start(&self.keys, from, strict);
-        let (_, keys) = self.keys.split_at(at);
+        let at = self.keys.start(from, strict);
+        let (_, keys) = self.keys.items().split_at(at);
         let (_, values) = self.values.split_at(at);
         (keys, values)
     }
@@ -110,12 +116,14 @@ impl<V> Leaf<V> {
     pub fn parts(&self) -> (&[Key], &[V])
         ensures { self.now ≡ zip result.0.now result.1.now }
     {
-        (&self.keys, &self.values)
+        (self.keys.items(), &self.values)
     }
 
     /// Puts the value at the key and gives the one that stood there. Where the run is full, and
     /// for want of memory, it hands the pair of a new key back, and the run is as before.
     pub fn insert(&mut self, key: Key, value: V) -> Result<Option<V>, (Key, V)>
+    where
+        V: Drop,
         ensures old { IfOk result (λ before. before ≡ value_at self.old key) }
         ensures put { IfOk result (λ _. self.new ≡ with_pair self.old key value) }
         ensures back { IfErr result (λ pair. pair ≡ (key, value)) }
@@ -123,7 +131,7 @@ impl<V> Leaf<V> {
         ensures overwrites { IsSome (value_at self.old key) → IsOk result }
         ensures in_order { IsInOrder self.new }
     {
-        match place(&self.keys, &key) {
+        match self.keys.place(&key) {
             Ok(at) => Ok(Some(std::mem::replace(&mut self.values[at], value))),
             Err(at) => {
                 if self.keys.len() >= MOST {
@@ -142,9 +150,9 @@ impl<V> Leaf<V> {
         ensures absent { IfNone result (self.new ≡ self.old) }
         ensures in_order { IsInOrder self.new }
     {
-        match place(&self.keys, key) {
+        match self.keys.place(key) {
             Ok(at) => {
-                let _ = self.keys.remove(at);
+                self.keys.remove(at);
                 Some(self.values.remove(at))
             }
             Err(_) => None,
@@ -154,6 +162,8 @@ impl<V> Leaf<V> {
     /// Splits a full run and gives its upper half; none where it is not full. For want of memory
     /// the run is as before.
     pub fn split_full(&mut self) -> Result<Option<Leaf<V>>, NoMemory>
+    where
+        V: Drop,
         ensures full { IfOk result (λ upper. IsSome upper ↔ (length self.old ≡ 128)) }
         ensures halves { IfOk result (λ upper. IfSome upper (λ upper. self.old ≡ self.new ++ upper)) }
         ensures filled { IfOk result (λ upper. IfSome upper (λ upper. (0 < length self.new) × (0 < length upper))) }
@@ -168,80 +178,52 @@ impl<V> Leaf<V> {
     }
 }
 
-// Where the key is, or where it would go.
-fn place(keys: &[Key], key: &Key) -> Result<usize, usize>
-    requires { IsStrictlySortedBy key_cmp keys.now }
-    ensures found { IfOk result (IsFoundAt keys.now key.now) }
-    ensures absent { IfErr result (IsGapAt keys.now key.now) }
-{
-    keys.binary_search_by(|k| k.compare(key))
-}
-
-// Where the keys begin that reach the bound.
-fn start(keys: &[Key], from: &[u8], strict: bool) -> usize
-    requires { IsStrictlySortedBy key_cmp keys.now }
-    ensures { IsStartAt keys.now from.now strict result }
-{
-    keys.partition_point(|k| falls_short(k.bytes(), from, strict))
-}
-
-/// The key is below the bound, or at it where strict.
-pub fn falls_short(key: &[u8], from: &[u8], strict: bool) -> bool
-    ensures { result ≡ not (reaches from.now strict key.now) }
-{
-    match compare_bytes(from, key) {
-        Ordering::Less => false,
-        Ordering::Equal => strict,
-        Ordering::Greater => true,
-    }
-}
-
-// Puts the key and the value into the same place, or leaves both vectors for want of memory.
-fn put_at<V>(
-    keys: &mut Vec<Key>,
+/// Puts the key into its gap and the value into the same place, or leaves both for want of memory.
+fn put_at<V: Drop>(
+    keys: &mut Keys,
     values: &mut Vec<V>,
     at: usize,
     key: Key,
     value: V,
 ) -> Result<(), (Key, V)>
-    requires in_keys { at ≤ vec_len keys.old }
+    requires gap { IsGapAt keys.old key at }
     requires in_values { at ≤ vec_len values.old }
-    ensures key_put { IfOk result (λ _. keys.new.items ≡ insert keys.old.items at key) }
+    ensures key_put { IfOk result (λ _. keys.new ≡ insert keys.old at key) }
     ensures value_put { IfOk result (λ _. values.new.items ≡ insert values.old.items at value) }
     ensures back { IfErr result (λ pair. pair ≡ (key, value)) }
-    ensures kept { OnErr result ((keys.new.items ≡ keys.old.items) × (values.new.items ≡ values.old.items)) }
+    ensures kept { OnErr result ((keys.new ≡ keys.old) × (values.new.items ≡ values.old.items)) }
 {
-    if keys.reserve(1).is_err() {
+    if values.reserve(1).is_err() {
         return Err((key, value));
     }
-    if let Err(refused) = values.insert(at, value) {
-        return Err((key, refused.value));
+    if let Err(key) = keys.insert(at, key) {
+        return Err((key, value));
     }
     // There is room for it.
-    let _ = keys.insert(at, key);
+    let _ = values.insert(at, value);
     Ok(())
 }
 
-// Takes what stands from the place on out of both vectors, or leaves both for want of memory.
-fn split_at<V>(
-    keys: &mut Vec<Key>,
+/// Takes what stands from the place on out of both, or leaves both for want of memory.
+fn split_at<V: Drop>(
+    keys: &mut Keys,
     values: &mut Vec<V>,
     at: usize,
-) -> Result<(Vec<Key>, Vec<V>), NoMemory>
-    requires in_keys { at ≤ vec_len keys.old }
+) -> Result<(Keys, Vec<V>), NoMemory>
+    requires in_keys { at ≤ length keys.old }
     requires in_values { at ≤ vec_len values.old }
-    ensures keys_kept { OnOk result (keys.new.items ≡ take at keys.old.items) }
+    ensures keys_kept { OnOk result (keys.new ≡ take at keys.old) }
     ensures values_kept { OnOk result (values.new.items ≡ take at values.old.items) }
-    ensures keys_taken { IfOk result (λ upper. upper.0.items ≡ drop at keys.old.items) }
+    ensures keys_taken { IfOk result (λ upper. upper.0 ≡ drop at keys.old) }
     ensures values_taken { IfOk result (λ upper. upper.1.items ≡ drop at values.old.items) }
-    ensures kept { OnErr result ((keys.new.items ≡ keys.old.items) × (values.new.items ≡ values.old.items)) }
+    ensures kept { OnErr result ((keys.new ≡ keys.old) × (values.new.items ≡ values.old.items)) }
 {
-    let mut upper = keys.split_off(at)?;
-    match values.split_off(at) {
-        Ok(others) => Ok((upper, others)),
+    let mut upper = values.split_off(at)?;
+    match keys.split_off(at) {
+        Ok(others) => Ok((others, upper)),
         Err(_) => {
             // They go back into the room that they left.
-            let _ = keys.append(&mut upper);
+            let _ = values.append(&mut upper);
             Err(NoMemory)
         }
     }

@@ -4,6 +4,8 @@
 //! the words for what stands at a key, for an edit at a key and for the first pair from a bound on.
 #![tactic(auto)]
 
+mod head;
 pub mod index;
+mod keys;
 mod leaf;
 pub mod walk;

@@ -28,7 +28,7 @@ impl<'a, V> Model for Walk<'a, V> {
 }
 
 impl<'a, V> Walk<'a, V> {
-    // A walk along keys with as many values, and then along leaves.
+    /// A walk along keys with as many values, and then along leaves.
     pub(crate) fn along(keys: &'a [Key], values: &'a [V], later: &'a [Leaf<V>]) -> Walk<'a, V>
         ensures { result ≡ zip keys.now values.now ++ pairs_of later.now }
     {

@@ -10,9 +10,10 @@ pub record CallCounts : Type 0 where
   pub failing : List ℕ
   pub faults : ℕ
 
--- a source: the bytes still to be taken
+-- a source: the bytes still to be taken, and how many the last call gave
 pub record SourceState : Type 0 where
   pub left : List ℕ
+  pub last : ℕ
   pub calls : CallCounts
 
 -- a sink: the bytes written, and how many it has room for

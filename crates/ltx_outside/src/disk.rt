@@ -10,7 +10,8 @@ use crate::failed::Failed;
 /// The most bytes that a log may have, so the last place where a write may end.
 pub const LOG_LIMIT: u64 = 1_099_511_627_776;
 
-/// Bytes at places, which are read and written anywhere and never get fewer.
+/// Bytes at places, which are read and written anywhere and never get fewer. A call that succeeds leaves the count of faults
+/// as it was.
 pub trait Disk {
     /// What it holds, where the disk tells it.
     ghost content: { Self → Option (List ℕ) };
@@ -23,6 +24,7 @@ pub trait Disk {
         ensures length { IfOk result (λ n. IfSome (content self.old) (λ bytes. n ≡ length bytes)) }
         ensures kept { content self.new ≡ content self.old }
         ensures counted { faults self.old ≤ faults self.new }
+        ensures calm { OnOk result (faults self.new ≡ faults self.old) }
         ensures cause { OnErr result (Rose (faults self.old) (faults self.new)) };
 
     /// Fills the buffer with the bytes from a place on, which lie within the length.
@@ -33,6 +35,7 @@ pub trait Disk {
         ensures bytes { OnOk result (IfSome (content self.old) (λ bytes. buffer.new ≡ take (length buffer.old) (drop at bytes))) }
         ensures kept { content self.new ≡ content self.old }
         ensures counted { faults self.old ≤ faults self.new }
+        ensures calm { OnOk result (faults self.new ≡ faults self.old) }
         ensures cause { OnErr result (Rose (faults self.old) (faults self.new)) };
 
     /// Puts a piece at a place that lies within the length or at its end, and lengthens the disk where the piece ends past it.
@@ -44,11 +47,13 @@ pub trait Disk {
         ensures bytes { OnOk result (IfSome (content self.old) (λ bytes. content self.new ≡ Some (overwritten at piece.now bytes))) }
         ensures range { IfSome (content self.old) (λ bytes. IsSomeAnd (content self.new) (ChangesWithin at (length piece.now) bytes)) }
         ensures counted { faults self.old ≤ faults self.new }
+        ensures calm { OnOk result (faults self.new ≡ faults self.old) }
         ensures cause { OnErr result (Rose (faults self.old) (faults self.new)) };
 
     /// After it, what was written is there for good. It leaves the bytes as they are, also where it fails.
     fn sync(&mut self) -> Result<(), Failed>
         ensures kept { content self.new ≡ content self.old }
         ensures counted { faults self.old ≤ faults self.new }
+        ensures calm { OnOk result (faults self.new ≡ faults self.old) }
         ensures cause { OnErr result (Rose (faults self.old) (faults self.new)) };
 }

@@ -1,6 +1,6 @@
 //! What the engine asks of the world: a source of bytes, a sink for bytes and a disk, with implementations in memory.
 //!
-//! Each device has a count of faults that never falls, and a call fails only where the count rose in it.
+//! Each device has a count of faults that never falls: a call that fails raises it, and one that succeeds leaves it.
 //! What a device holds is told where it is known, and the clauses that speak of it hold there.
 #![tactic(auto)]
 

@@ -4,6 +4,7 @@ ghost use Rattle.std.specs.Prelude.{◌≡◌, [], ◌≤◌, ◌<◌, ◌↔◌
 ghost use Rattle.std.specs.Io.{ReadsAtMost};
 ghost use Rattle.std.specs.Io.KnownBytes.{ReadConsumes};
 ghost use Rattle.ltx_outside.specs.Memory.{CountsCall, is_to_fail, no_calls};
+ghost use Rattle.ltx_outside.specs.Reads.{bytes_given};
 
 use crate::calls::Calls;
 use crate::failed::Failed;
@@ -15,6 +16,8 @@ use std::marker::Model;
 pub struct MemSource {
     bytes: Vec<u8>,
     at: usize,
+    /// How many bytes the last call gave.
+    last: usize,
     calls: Calls,
 }
 
@@ -24,7 +27,7 @@ impl Model for MemSource {
 
     ghost Value = { SourceState };
 
-    ghost view = { λ s. record { left = drop s.at s.bytes.items; calls = s.calls } };
+    ghost view = { λ s. record { left = drop s.at s.bytes.items; last = s.last; calls = s.calls } };
 
     ghost invariant = { λ s. s.at ≤ length s.bytes.items };
 }
@@ -32,11 +35,12 @@ impl Model for MemSource {
 impl MemSource {
     /// A source of these bytes that fails the reads of these numbers, counted from 1.
     pub fn new(bytes: Vec<u8>, failing: Vec<u64>) -> MemSource
-        ensures { result ≡ record { left = bytes.items; calls = no_calls failing.items } }
+        ensures { result ≡ record { left = bytes.items; last = 0; calls = no_calls failing.items } }
     {
         MemSource {
             bytes,
             at: 0,
+            last: 0,
             calls: Calls::new(failing),
         }
     }
@@ -47,6 +51,8 @@ impl Source for MemSource {
 
     ghost left = { λ s. Some s.left };
 
+    ghost reads = { λ s. Some (record { calls = s.calls.made; last = s.last }) };
+
     ghost faults = { λ s. s.calls.faults };
 
     /// Takes as many bytes as there are and as fit. It fails exactly where its number is one of those that fail.
@@ -55,14 +61,17 @@ impl Source for MemSource {
         ensures taken { ReadConsumes (Some self.old.left) (Some self.new.left) result buffer.new }
         ensures most { IfOk result (λ n. n ≡ min (length buffer.old) (length self.old.left)) }
         ensures kept { OnErr result (self.new.left ≡ self.old.left) }
+        ensures last { self.new.last ≡ bytes_given result }
         ensures planned { IsErr result ↔ IsTrue (is_to_fail self.new.calls) }
         ensures counted { CountsCall self.old.calls self.new.calls result }
         ensures sound { self.old.calls.failing ≡ [] → self.new.calls.faults ≡ self.old.calls.faults }
     {
+        self.last = 0;
         self.calls.next()?;
         let (_, rest) = self.bytes.split_at(self.at);
         let count = copy_front(rest, buffer);
         self.at += count;
+        self.last = count;
         Ok(count)
     }
 }

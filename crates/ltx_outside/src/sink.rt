@@ -6,7 +6,7 @@ ghost use Rattle.ltx_outside.specs.Faults.{Rose};
 
 use crate::failed::Failed;
 
-/// Bytes that are written one after another.
+/// Bytes that are written one after another. A call that succeeds leaves the count of faults as it was.
 pub trait Sink {
     /// The bytes that were written, where the sink tells them.
     ghost written: { Self → Option (List ℕ) };
@@ -23,6 +23,7 @@ pub trait Sink {
         ensures taken { WriteAppends (written self.old) (written self.new) result piece.now }
         ensures kept { OnErr result (written self.new ≡ written self.old) }
         ensures counted { faults self.old ≤ faults self.new }
+        ensures calm { OnOk result (faults self.new ≡ faults self.old) }
         ensures cause { OnErr result (Rose (faults self.old) (faults self.new)) };
 }
 
@@ -34,6 +35,7 @@ pub fn write_all<K: Sink>(sink: &mut K, text: &[u8]) -> Result<(), Failed>
     ensures front { (n : ℕ) × (n ≤ length text.now) × Appends (K.written sink.old) (K.written sink.new) (take n text.now) }
     ensures untouched { length text.now ≡ 0 → sink.new ≡ sink.old }
     ensures counted { K.faults sink.old ≤ K.faults sink.new }
+    ensures calm { OnOk result (K.faults sink.new ≡ K.faults sink.old) }
     ensures cause { OnErr result (Rose (K.faults sink.old) (K.faults sink.new)) }
 {
     let mut done = 0;

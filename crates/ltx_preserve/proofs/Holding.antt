@@ -126,7 +126,7 @@ removed_idle t xs i (Some n) old least = record {
   no_less = all_removed (λ y. holds_table t y ≡ true → n ≤ y.number) xs i least.no_less;
 }
 
-get_any : {A : Type 0} (xs : List A) (i : ℕ) → i < length xs → (x d : A) → x ≡ get_or xs i x → get_or xs i d ≡ x
+pub get_any : {A : Type 0} (xs : List A) (i : ℕ) → i < length xs → (x d : A) → x ≡ get_or xs i x → get_or xs i d ≡ x
 get_any [] i within x d is = absurd (omega arith)
 get_any (y ∷ ys) zero within x d is = sym is
 get_any (y ∷ ys) (suc i) within x d is = get_any ys i (omega arith) x d is
@@ -160,17 +160,17 @@ pub looked_at : (t : ℕ) (xs : List Holder) (i : ℕ) (x : Holder) (old new : O
     → ((ys : List Holder) → IsKept ys t old → IsKept (ys ++ x ∷ []) t new) → IsKept (take (i + 1) xs) t new
 looked_at t xs i x old new within is held step = rw (add-one i) (subst (λ ys. IsKept ys t new) (sym (take_one_more xs i x within is)) (step (take i xs) held))
 
-pub live_holders : (tx : ℕ) (xs ys : List Holder) (i : ℕ) (x : Holder) (old new : List (Option ℕ)) → IsFirst (is_holder tx) xs i → x ≡ get_or xs i x → ys ≡ set xs i (live_from_now x) → AreKept xs old
-    → ((t : ℕ) → t < 64 → has_table x.tables t ≡ true → IsKept ys t (slice_index_or new t None))
-    → ((t : ℕ) → t < 64 → has_table x.tables t ≡ false → slice_index_or new t None ≡ slice_index_or old t None)
+pub live_holders : (tx : ℕ) (xs ys : List Holder) (i : ℕ) (x : Holder) (tables : ℕ) (old new : List (Option ℕ)) → IsFirst (is_holder tx) xs i → x ≡ get_or xs i x → ys ≡ set xs i (live_from_now x) → tables ≡ x.tables → AreKept xs old
+    → ((t : ℕ) → t < 64 → has_table tables t ≡ true → IsKept ys t (slice_index_or new t None))
+    → ((t : ℕ) → t < 64 → has_table tables t ≡ false → slice_index_or new t None ≡ slice_index_or old t None)
     → AreKept ys new
-live_holders tx xs ys i x old new first is ys_is held = found_anew xs ys old new x.tables held (λ t idle o h. subst (λ l. IsKept l t o) (sym ys_is) (live_idle t xs i first.within x is idle o h))
+live_holders tx xs ys i x tables old new first is ys_is tables_are held = found_anew xs ys old new tables held (λ t idle o h. subst (λ l. IsKept l t o) (sym ys_is) (live_idle t xs i first.within x is (ap (λ s. has_table s t) (sym tables_are) ∙ idle) o h))
 
-pub ended_holders : (tx : ℕ) (xs ys : List Holder) (i : ℕ) (x : Holder) (old new : List (Option ℕ)) → IsFirst (is_holder tx) xs i → x ≡ get_or xs i x → ys ≡ remove xs i → AreKept xs old
-    → ((t : ℕ) → t < 64 → has_table x.tables t ≡ true → IsKept ys t (slice_index_or new t None))
-    → ((t : ℕ) → t < 64 → has_table x.tables t ≡ false → slice_index_or new t None ≡ slice_index_or old t None)
+pub ended_holders : (tx : ℕ) (xs ys : List Holder) (i : ℕ) (x : Holder) (tables : ℕ) (old new : List (Option ℕ)) → IsFirst (is_holder tx) xs i → x ≡ get_or xs i x → ys ≡ remove xs i → tables ≡ x.tables → AreKept xs old
+    → ((t : ℕ) → t < 64 → has_table tables t ≡ true → IsKept ys t (slice_index_or new t None))
+    → ((t : ℕ) → t < 64 → has_table tables t ≡ false → slice_index_or new t None ≡ slice_index_or old t None)
     → AreKept ys new
-ended_holders tx xs ys i x old new first is ys_is held = found_anew xs ys old new x.tables held (λ t idle o h. subst (λ l. IsKept l t o) (sym ys_is) (ended_idle t xs i first.within x is (and_idle x.live (has_table x.tables t) idle) o h))
+ended_holders tx xs ys i x tables old new first is ys_is tables_are held = found_anew xs ys old new tables held (λ t idle o h. subst (λ l. IsKept l t o) (sym ys_is) (ended_idle t xs i first.within x is (and_idle x.live (has_table x.tables t) (ap (λ s. has_table s t) (sym tables_are) ∙ idle)) o h))
 
 pub pending_ended : (tx : ℕ) (xs ys : List Holder) (i : ℕ) (x : Holder) (old : List (Option ℕ)) → IsFirst (is_holder tx) xs i → x ≡ get_or xs i x → ys ≡ remove xs i → x.live ≡ false → AreKept xs old → AreKept ys old
 pending_ended tx xs ys i x old first is ys_is pending held t within = subst (λ l. IsKept l t (slice_index_or old t None)) (sym ys_is) (ended_idle t xs i first.within x is (ap (λ b. b && has_table x.tables t) pending) (slice_index_or old t None) (held t within))
@@ -201,11 +201,11 @@ and_both false b e = cc
 
 found : (t n : ℕ) (hs : List Holder) → list_any (by t n) hs ≡ true → Found t n hs
 found t n [] held = cc
-found t n (x ∷ xs) held = by_test (by t n x) refl held
+found t n (x ∷ xs) held = by_test (by t n x) refl held (λ rest. found t n xs rest)
   where
-    by_test : (b : Bool) → by t n x ≡ b → (b || list_any (by t n) xs) ≡ true → Found t n (x ∷ xs)
-    by_test true is rest = let both = and_both (is_holder n x) (holds_table t x) is in record { holder = x; here = (zero, omega arith, refl); number = grind (arith, nat_tests, both.0); busy = both.1 }
-    by_test false is rest = later t n x xs (found t n xs rest)
+    by_test : (b : Bool) → by t n x ≡ b → (b || list_any (by t n) xs) ≡ true → (list_any (by t n) xs ≡ true → Found t n xs) → Found t n (x ∷ xs)
+    by_test true is rest later_on = let both = and_both (is_holder n x) (holds_table t x) is in record { holder = x; here = (zero, omega arith, refl); number = grind (arith, nat_tests, both.0); busy = both.1 }
+    by_test false is rest later_on = later t n x xs (later_on rest)
 
 -- what tests tell is what is said of each batch
 pub told : (t : ℕ) (hs : List Holder) (o : Option ℕ) → IsKept hs t o → IsHeldBy hs t o

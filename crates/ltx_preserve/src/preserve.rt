@@ -17,7 +17,7 @@ use ltx_model::tables::TableSet;
 use std::alloc::Global;
 use std::marker::Model;
 
-// A batch that has begun: its number, the tables that it declared, and whether it is live.
+/// A batch that has begun: its number, the tables that it declared, and whether it is live.
 #[derive(Debug, Drop)]
 struct Entered {
     tx: Tx,
@@ -36,29 +36,49 @@ impl Model for Entered {
 }
 
 impl Entered {
-    // From now on it is live.
+    /// From now on it is live.
     fn go_live(&mut self)
         ensures { self.new ≡ live_from_now self.old }
     {
         self.live = true;
     }
 
-    // Whether it is live and has declared the table.
+    /// Its number.
+    fn number(&self) -> Tx
+        ensures { result ≡ self.now.number }
+    {
+        self.tx
+    }
+
+    /// The tables that it declared.
+    fn tables(&self) -> TableSet
+        ensures { result ≡ self.now.tables }
+    {
+        self.tables
+    }
+
+    /// Whether it is live.
+    fn is_live(&self) -> bool
+        ensures { result ≡ self.now.live }
+    {
+        self.live
+    }
+
+    /// Whether it is live and has declared the table.
     fn holds(&self, table: Table) -> bool
         ensures { result ≡ holds_table table self.now }
     {
         self.live && self.tables.has(table)
     }
 
-    // The least holder of a table among some batches and this one.
-    #[tactic(auto, using(crate::proofs::Holding::one_more_idle, crate::proofs::Holding::one_more_holder))]
+    /// The least holder of a table among some batches and this one.
     fn lesser_holder(&self, table: Table, least: Option<Tx>) -> Option<Tx>
         ensures { (hs : List Holder) → IsKept hs table least → IsKept (hs ++ self.now ∷ []) table result }
     {
-        if !self.holds(table) {
-            return least;
+        if self.holds(table) {
+            return lesser(least, self.number());
         }
-        lesser(least, self.tx)
+        least
     }
 }
 
@@ -113,7 +133,7 @@ impl Preserve {
         ensures { self.new ≡ gone_live tx self.old }
     {
         if let Some(place) = place_of(&self.entered, tx) {
-            let tables = self.entered[place].tables;
+            let tables = self.entered[place].tables();
             self.entered[place].go_live();
             refresh(&self.entered, &mut self.least, tables);
         }
@@ -126,23 +146,29 @@ impl Preserve {
     {
         if let Some(place) = place_of(&self.entered, tx) {
             let ended = self.entered.remove(place);
-            if ended.live {
-                refresh(&self.entered, &mut self.least, ended.tables);
+            if ended.is_live() {
+                refresh(&self.entered, &mut self.least, ended.tables());
             }
         }
     }
 
-    /// The holder of a table with the least number, or None where nobody holds it. It takes constant
-    /// time.
-    #[tactic(auto, using(crate::proofs::Holding::told))]
-    pub fn holder(&self, table: Table) -> Option<Tx>
-        ensures { IsHeldBy self.now table result }
+    /// The least holder that is kept of a table.
+    fn kept(&self, table: Table) -> Option<Tx>
+        ensures { IsKept self.now table result }
     {
         self.least[table.number() as usize]
     }
+
+    /// The holder of a table with the least number, or None where nobody holds it. It takes constant
+    /// time.
+    pub fn holder(&self, table: Table) -> Option<Tx>
+        ensures { IsHeldBy self.now table result }
+    {
+        self.kept(table)
+    }
 }
 
-// No holder of any table.
+/// No holder of any table.
 fn nobody() -> [Option<Tx>; 64]
     ensures { (table : ℕ) → table < 64 → slice_index_or result table None ≡ None }
 {
@@ -153,7 +179,7 @@ fn nobody() -> [Option<Tx>; 64]
     least
 }
 
-// Where a batch stands.
+/// Where a batch stands.
 fn place_of(entered: &[Entered], tx: Tx) -> Option<usize>
     ensures some { IfSome result (IsFirst (is_holder tx) entered.now) }
     ensures none { IfNone result (is_entered entered.now tx ≡ false) }
@@ -166,7 +192,7 @@ fn place_of(entered: &[Entered], tx: Tx) -> Option<usize>
     None
 }
 
-// The least holder of a table.
+/// The least holder of a table.
 fn least_holder(entered: &[Entered], table: Table) -> Option<Tx>
     ensures { IsKept entered.now table result }
 {
@@ -177,7 +203,7 @@ fn least_holder(entered: &[Entered], table: Table) -> Option<Tx>
     least
 }
 
-// The lesser of two numbers, where there are two.
+/// The lesser of two numbers, where there are two.
 fn lesser(least: Option<Tx>, tx: Tx) -> Option<Tx>
     ensures { result ≡ Some (lesser_of least tx) }
 {
@@ -187,7 +213,7 @@ fn lesser(least: Option<Tx>, tx: Tx) -> Option<Tx>
     }
 }
 
-// Finds the holders of some tables anew.
+/// Finds the holders of some tables anew.
 fn refresh(entered: &[Entered], least: &mut [Option<Tx>; 64], tables: TableSet)
     ensures here { (table : ℕ) → table < 64 → has_table tables table ≡ true → IsKept entered.now table (slice_index_or least.new table None) }
     ensures others { (table : ℕ) → table < 64 → has_table tables table ≡ false → slice_index_or least.new table None ≡ slice_index_or least.old table None }

@@ -8,6 +8,7 @@ mod examples;
 mod tests {
     use crate::examples::{CONFLICT, ORDERS, PHANTOM};
     use ltx_outside::{Disk, Failed, MemDisk, MemSink, MemSource, Sink, Source};
+    use ltx_text::decimals::put_decimal;
     use ltx_top::run;
     use std::alloc::Global;
     use std::test::Fail;
@@ -23,6 +24,8 @@ mod tests {
         ghost use Rattle.std.specs.Prelude.{None};
 
         ghost left = { λ _. None };
+
+        ghost reads = { λ _. None };
 
         ghost faults = { λ s. s.source.calls.faults };
 
@@ -73,7 +76,7 @@ mod tests {
             most,
         };
         let mut disk = MemDisk::new(Vec::new(alloc), 0, vec![in alloc; 1]?)?;
-        let mut sink = MemSink::new(alloc, 100_000, Vec::from_slice(alloc, writes)?)?;
+        let mut sink = MemSink::new(alloc, 2_000_000, Vec::from_slice(alloc, writes)?)?;
         let status = call(alloc, &spelt, &mut source, &mut disk, &mut sink);
         let printed = Vec::from_slice(alloc, sink.written())?;
         Ok(Given {
@@ -297,6 +300,270 @@ mod tests {
             assert_eq!(rt; given.printed.as_slice(), printed.as_bytes());
             let mut buffer = [0; 100];
             assert_eq!(rt; given.source.source.read(&mut buffer)?, *left);
+        }
+        Ok(())
+    }
+
+    /// Lines that are given for each number of a range, with their replies. In both `#` stands for the number, `$` for it with
+    /// five digits, and `@` for 7,919 times the number, modulo 10,000, with five digits.
+    type Part = (u32, u32, &'static [(&'static str, &'static str)]);
+
+    /// A script at a limit, and how many transactions its order has, in order of their numbers.
+    type Limit = (&'static [Part], u32);
+
+    /// Appends a number with five digits.
+    fn put_five(out: &mut Vec<u8>, n: u32) -> Result<(), Fail> {
+        for unit in [10_000, 1_000, 100, 10, 1] {
+            out.push(b'0' + (n / unit % 10) as u8)?;
+        }
+        Ok(())
+    }
+
+    /// Appends a template with the number in its places.
+    fn put_with(out: &mut Vec<u8>, template: &str, n: u32) -> Result<(), Fail> {
+        for byte in template.as_bytes() {
+            match byte {
+                b'#' => put_decimal(u64::from(n), out)?,
+                b'$' => put_five(out, n)?,
+                b'@' => put_five(out, n.wrapping_mul(7_919) % 10_000)?,
+                _ => out.push(*byte)?,
+            }
+        }
+        Ok(())
+    }
+
+    /// Appends the lines of a part to a script, and their entries to a text.
+    fn put_part(script: &mut Vec<u8>, text: &mut Vec<u8>, part: &Part) -> Result<(), Fail> {
+        let (from, to, lines) = part;
+        for n in *from..*to {
+            for (line, reply) in *lines {
+                put_with(script, line, n)?;
+                script.push(b'\n')?;
+                put_with(text, line, n)?;
+                text.extend_from_slice(b" => ")?;
+                put_with(text, reply, n)?;
+                text.push(b'\n')?;
+            }
+        }
+        Ok(())
+    }
+
+    /// Appends the ending of a run whose order is the numbers to this one, and that made nothing durable.
+    fn put_ending(text: &mut Vec<u8>, to: u32) -> Result<(), Fail> {
+        text.extend_from_slice(b"order")?;
+        for n in 1..=to {
+            put_with(text, " #", n)?;
+        }
+        text.extend_from_slice(b"\ndurable 0\n")?;
+        Ok(())
+    }
+
+    const LIMITS: &[Limit] = &[
+        // A session has one open transaction.
+        (
+            &[(
+                0,
+                1,
+                &[
+                    ("1 short", "begun 1"),
+                    ("1 short", "hastx"),
+                    ("1 abort", "aborted"),
+                ],
+            )],
+            0,
+        ),
+        // A row that was read is gone at the commit.
+        (
+            &[(
+                0,
+                1,
+                &[
+                    ("1 short", "begun 1"),
+                    ("1 put 0 x v", "done"),
+                    ("1 commit", "committed 1"),
+                    ("2 short", "begun 2"),
+                    ("2 del 0 x", "done"),
+                    ("3 short", "begun 3"),
+                    ("3 get 0 x", "found v"),
+                    ("2 commit", "committed 1"),
+                    ("3 put 0 y w", "done"),
+                    ("3 commit", "changed 1 0 x 1 none"),
+                ],
+            )],
+            2,
+        ),
+        // As many operations as a transaction may have, and one more; the transaction goes on without it.
+        (
+            &[
+                (0, 1, &[("1 short", "begun 1")]),
+                (0, 65_536, &[("1 put 0 x v#", "done")]),
+                (
+                    0,
+                    1,
+                    &[("1 get 0 x", "limit ops"), ("1 commit", "committed 1")],
+                ),
+            ],
+            1,
+        ),
+        // All sessions at once.
+        (
+            &[
+                (1, 1_025, &[("# short", "begun #")]),
+                (1, 1_025, &[("# get 0 k", "none"), ("# put 1 k$ v", "done")]),
+                (1, 1_025, &[("# commit", "committed 1")]),
+            ],
+            1_024,
+        ),
+        // A commit of 20,000 writes.
+        (
+            &[
+                (0, 1, &[("1 short", "begun 1")]),
+                (0, 20_000, &[("1 put 0 k$ v$", "done")]),
+                (0, 1, &[("1 commit", "committed 1"), ("2 short", "begun 2")]),
+                (0, 20_000, &[("2 get 0 k$", "found v$")]),
+            ],
+            1,
+        ),
+        // 300 commits of one key, then a read of it in each of ten sessions.
+        (
+            &[
+                (
+                    1,
+                    301,
+                    &[
+                        ("1 short", "begun #"),
+                        ("1 put 0 x v#", "done"),
+                        ("1 commit", "committed 1"),
+                    ],
+                ),
+                (
+                    301,
+                    311,
+                    &[
+                        ("# short", "begun #"),
+                        ("# get 0 x", "found v300"),
+                        ("# put 1 x w", "done"),
+                        ("# commit", "committed 1"),
+                    ],
+                ),
+            ],
+            310,
+        ),
+    ];
+
+    const SHUFFLED: &[Part] = &[
+        (
+            1,
+            10_001,
+            &[
+                ("1 short", "begun #"),
+                ("1 put 0 @ v", "done"),
+                ("1 commit", "committed 1"),
+            ],
+        ),
+        (10_001, 10_002, &[("1 short", "begun #")]),
+    ];
+
+    /// Whether a run of this script, of which a read gives so much, ends at this status and prints this text.
+    fn gives(
+        alloc: Global,
+        script: &[u8],
+        most: usize,
+        status: u8,
+        text: &[u8],
+    ) -> Result<bool, Fail> {
+        let script = Vec::from_slice(alloc, script)?;
+        let given = called_with(alloc, &["run"], script, most, &[], &[])?;
+        Ok(given.status == status && given.printed.as_slice() == text)
+    }
+
+    #[test]
+    fn runs_at_the_limits(rt: HostRuntime) -> Result<(), Fail> {
+        let alloc = rt.alloc();
+        for (parts, order) in LIMITS {
+            let mut script = Vec::new(alloc);
+            let mut text = Vec::new(alloc);
+            for part in *parts {
+                put_part(&mut script, &mut text, part)?;
+            }
+            put_ending(&mut text, *order)?;
+            assert!(rt; gives(alloc, &script, 100_000, 0, &text)?);
+        }
+        // Commits of 10,000 rows in random order, a scan of 2,000 of them, and a read of each.
+        let mut script = Vec::new(alloc);
+        let mut text = Vec::new(alloc);
+        for part in SHUFFLED {
+            put_part(&mut script, &mut text, part)?;
+        }
+        put_line(&mut script, "1 scan 0 % 02000")?;
+        text.extend_from_slice(b"1 scan 0 % 02000 => rows 2000")?;
+        for n in 0..2_000 {
+            put_with(&mut text, " $ v", n)?;
+        }
+        text.push(b'\n')?;
+        put_part(
+            &mut script,
+            &mut text,
+            &(0, 10_000, &[("1 get 0 $", "found v")]),
+        )?;
+        put_ending(&mut text, 10_000)?;
+        assert!(rt; gives(alloc, &script, 100_000, 0, &text)?);
+        Ok(())
+    }
+
+    /// A text that is so many times the same.
+    fn many(alloc: Global, front: &str, text: &str, count: u32) -> Result<Vec<u8>, Fail> {
+        let mut out = Vec::from_slice(alloc, front.as_bytes())?;
+        for _ in 0..count {
+            out.extend_from_slice(text.as_bytes())?;
+        }
+        Ok(out)
+    }
+
+    /// The front of a line and what fills it up to 4,096 bytes, how often, and its cause.
+    const FULL_LINES: &[(&str, &str, u32, &str)] = &[
+        ("", " ", 4_096, "bad words"),
+        ("", "9", 4_096, "bad session"),
+        ("epoch ", "a", 4_090, "bad words"),
+        ("1 ", "a", 4_094, "bad verb"),
+        ("1 get ", "0", 4_090, "bad words"),
+        ("1 scan 0 % ", "a", 4_085, "bad key"),
+        ("1 del 0 ", "a", 4_088, "bad key"),
+        ("1 put 0 k ", "%00", 1_362, "bad value"),
+        ("1 long W=", "1", 4_087, "bad sets"),
+        ("1 long W=- R=", "1", 4_083, "bad sets"),
+    ];
+
+    #[test]
+    fn long_lines_and_much_text(rt: HostRuntime) -> Result<(), Fail> {
+        let alloc = rt.alloc();
+        let mut script = Vec::new(alloc);
+        let mut text = Vec::new(alloc);
+        for (front, fill, count, cause) in FULL_LINES {
+            let line = many(alloc, front, fill, *count)?;
+            assert_eq!(rt; line.len(), 4_096);
+            script.extend_from_slice(&line)?;
+            script.push(b'\n')?;
+            put_entry(&mut text, "?", cause)?;
+        }
+        // A value whose bytes are all escaped, and more text between two reads than is gathered.
+        let value = many(alloc, "", "%FF", 1_024)?;
+        put_part(&mut script, &mut text, &(0, 1, &[("1 short", "begun 1")]))?;
+        script.extend_from_slice(b"1 put 0 k ")?;
+        script.extend_from_slice(&value)?;
+        script.push(b'\n')?;
+        text.extend_from_slice(b"1 put 0 k ")?;
+        text.extend_from_slice(&value)?;
+        text.extend_from_slice(b" => done\n")?;
+        for _ in 0..100 {
+            put_line(&mut script, "1 get 0 k")?;
+            text.extend_from_slice(b"1 get 0 k => found ")?;
+            text.extend_from_slice(&value)?;
+            text.push(b'\n')?;
+        }
+        put_ending(&mut text, 0)?;
+        for most in MOST_OF_A_READ {
+            assert!(rt; gives(alloc, &script, most, 1, &text)?);
         }
         Ok(())
     }

@@ -15,7 +15,7 @@ use std::process::ExitCode;
 use std::{env, io};
 
 /// What is printed on standard error where the words are no command.
-const USAGE: &str = "usage: ltx_run run";
+const USAGE: &str = "usage: ltx_run run | recover | threads N | drive START COUNT";
 
 /// The words of the command line, without the program's name.
 fn words_of(rt: &HostRuntime) -> io::Result<Vec<String>> {

@@ -1,20 +1,20 @@
-//! The notes of a short transaction, for the check at its commit and for the records.
-//!
-//! Each operation leaves one note, in the order in which it was answered, so the number of notes is
-//! the number of operations. The tables that notes touch and look into are kept beside them.
+//! A short transaction: its number, and its notes for the check at its commit and for the records.
 
 ghost use Rattle.std.specs.Prelude.{◌≡◌, ◌<◌, ◌≤◌, ℕ, List, [], ◌∷◌, ◌++◌, length, OnOk, OnErr, Some, None};
 ghost use Rattle.std.specs.List.{list_any};
+ghost use Rattle.ltx_model.specs.Limits.{most_operations};
+ghost use Rattle.ltx_model.specs.NoteLists.{no_notes, is_of_table, looks_into_table};
 ghost use Rattle.ltx_model.specs.Tables.{has_table};
 ghost use Rattle.ltx_model.specs.declared.looked.Reach.TheVariants.{Nothing, Point, Range};
-ghost use Rattle.ltx_short.specs.Notes.{noted, is_of_table, looks_into_table};
+ghost use Rattle.ltx_short.specs.Shorts.{short_with, noted, marked};
 
 use ltx_model::bytes::{Bound, Key};
-use ltx_model::looked::{Looked, Noted, Reach};
+use ltx_model::looked::{Looked, Noted};
 use ltx_model::memory::NoMemory;
+use ltx_model::notes::Notes;
 use ltx_model::numbers::{Table, Tx};
 use ltx_model::tables::TableSet;
-use ltx_model::writes::{KeyList, Look, LookList};
+use ltx_model::writes::Look;
 use std::alloc::Global;
 use std::marker::Model;
 
@@ -22,34 +22,36 @@ use std::marker::Model;
 #[derive(Debug, Drop)]
 pub struct ShortTx {
     tx: Tx,
-    notes: Vec<Noted>,
-    touched: TableSet,
-    looked_into: TableSet,
+    notes: Notes,
 }
 
-// Clauses see its number and its notes.
+// Clauses see its number, its notes, and their marks.
 impl Model for ShortTx {
-    ghost use Rattle.ltx_short.specs.Notes.{Short, IsSummary};
+    ghost use Rattle.ltx_short.specs.Shorts.{Short, short_with};
 
     ghost Value = { Short };
 
-    ghost view = { λ s. record { tx = s.tx; notes = s.notes.items } };
-
-    ghost invariant = { λ s. IsSummary s.notes.items s.touched s.looked_into };
+    ghost view = { λ s. short_with s.tx s.notes };
 }
 
 impl ShortTx {
-    /// A transaction without notes, which takes no memory.
+    /// A transaction without notes, which takes no memory. Its first notes are of mark 0.
     pub fn new(alloc: Global, tx: Tx) -> ShortTx
-        ensures tx { result.tx ≡ tx }
-        ensures notes { result.notes ≡ [] }
+        ensures { result ≡ short_with tx no_notes }
     {
         ShortTx {
             tx,
-            notes: Vec::new(alloc),
-            touched: TableSet::empty(),
-            looked_into: TableSet::empty(),
+            notes: Notes::new(alloc),
         }
+    }
+
+    /// The next notes are of this mark, the number of commits by now. After NoMemory nothing has
+    /// changed.
+    pub fn set_mark(&mut self, mark: u64) -> Result<(), NoMemory>
+        ensures marked { OnOk result (self.new ≡ marked self.old mark) }
+        ensures kept { OnErr result (self.new ≡ self.old) }
+    {
+        self.notes.set_mark(mark)
     }
 
     /// Notes a get: the look of the key's last writer, and whether the transaction had written the
@@ -61,15 +63,11 @@ impl ShortTx {
         look: Option<Look>,
         own: bool,
     ) -> Result<(), NoMemory>
-        requires limit { length self.old.notes < 65536 }
+        requires limit { length self.old.notes < most_operations }
         ensures noted { OnOk result (self.new ≡ noted self.old (record { table = table; reach = Point key look own; write = None })) }
         ensures kept { OnErr result (self.new ≡ self.old) }
     {
-        self.note(Noted {
-            table,
-            reach: Reach::Point { key, look, own },
-            write: None,
-        })
+        self.notes.note_get(table, key, look, own)
     }
 
     /// Notes a scan: the looks of the kept keys of its range, and the keys of the range that the
@@ -82,48 +80,35 @@ impl ShortTx {
         looks: Vec<Look>,
         own: Vec<Key>,
     ) -> Result<(), NoMemory>
-        requires limit { length self.old.notes < 65536 }
+        requires limit { length self.old.notes < most_operations }
         ensures noted { OnOk result (self.new ≡ noted self.old (record { table = table; reach = Range low high looks.items own.items; write = None })) }
         ensures kept { OnErr result (self.new ≡ self.old) }
     {
-        self.note(Noted {
-            table,
-            reach: Reach::Range {
-                low,
-                high,
-                looks: LookList::from_vec(looks),
-                own: KeyList::from_vec(own),
-            },
-            write: None,
-        })
+        self.notes.note_scan(table, low, high, looks, own)
     }
 
     /// Notes a put or a deletion of the key. After NoMemory nothing has changed.
     pub fn note_write(&mut self, table: Table, key: Key) -> Result<(), NoMemory>
-        requires limit { length self.old.notes < 65536 }
+        requires limit { length self.old.notes < most_operations }
         ensures noted { OnOk result (self.new ≡ noted self.old (record { table = table; reach = Nothing; write = Some key })) }
         ensures kept { OnErr result (self.new ≡ self.old) }
     {
-        self.note(Noted {
-            table,
-            reach: Reach::Nothing,
-            write: Some(key),
-        })
+        self.notes.note_write(table, key)
     }
 
     /// The number of operations noted.
     pub fn count(&self) -> u32
         ensures value { result ≡ length self.now.notes }
-        ensures limit { result ≤ 65536 }
+        ensures limit { result ≤ most_operations }
     {
-        self.notes.len() as u32
+        self.notes.count()
     }
 
     /// The tables that operations touched.
     pub fn touched(&self) -> TableSet
         ensures { (t : ℕ) → t < 64 → has_table result t ≡ list_any (is_of_table t) self.now.notes }
     {
-        self.touched
+        self.notes.touched()
     }
 
     /// The tables that operations looked into: by a scan, or by a get of a key that the transaction
@@ -131,22 +116,7 @@ impl ShortTx {
     pub fn looked_into(&self) -> TableSet
         ensures { (t : ℕ) → t < 64 → has_table result t ≡ list_any (looks_into_table t) self.now.notes }
     {
-        self.looked_into
-    }
-
-    fn note(&mut self, note: Noted) -> Result<(), NoMemory>
-        requires limit { length self.old.notes < 65536 }
-        ensures noted { OnOk result (self.new ≡ noted self.old note) }
-        ensures kept { OnErr result (self.new ≡ self.old) }
-    {
-        let table = note.table;
-        let looks = looks_into(&note);
-        self.notes.push(note)?;
-        self.touched = self.touched.with(table);
-        if looks {
-            self.looked_into = self.looked_into.with(table);
-        }
-        Ok(())
+        self.notes.looked_into()
     }
 }
 
@@ -162,18 +132,7 @@ impl Looked for ShortTx {
     }
 
     fn noted(&self) -> &[Noted] {
-        &self.notes
-    }
-}
-
-// Whether the noted operation looked into its table.
-fn looks_into(note: &Noted) -> bool
-    ensures { result ≡ looks_into_table note.now.table note.now }
-{
-    match &note.reach {
-        Reach::Nothing => false,
-        Reach::Point { own, .. } => !*own,
-        Reach::Range { .. } => true,
+        self.notes.items()
     }
 }
 

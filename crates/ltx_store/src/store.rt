@@ -127,7 +127,7 @@ impl Store {
         Ok(())
     }
 
-    // Makes room for one version of a key. After NoMemory nothing has changed.
+    /// Makes room for one version of a key. After NoMemory nothing has changed.
     fn reserve_write(&mut self, alloc: Global, write: &Write) -> Result<(), NoMemory>
         ensures made { OnOk result (0 < room_at self.new (cell_of_write write.now)) }
         ensures same { HasSameVersions self.old self.new }

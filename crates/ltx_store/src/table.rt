@@ -20,7 +20,7 @@ use ltx_model::rows::Row;
 use ltx_model::writes::Look;
 use std::alloc::Global;
 
-// Makes room for one version of the key. After NoMemory the table is as before.
+/// Makes room for one version of the key. After NoMemory the table is as before.
 pub(crate) fn reserve(alloc: Global, table: &mut Index<Chain>, key: &Key) -> Result<(), NoMemory>
     ensures made { OnOk result (IsRoomMade table.old table.new key.now) }
     ensures kept { OnErr result (table.new ≡ table.old) }
@@ -34,7 +34,7 @@ pub(crate) fn reserve(alloc: Global, table: &mut Index<Chain>, key: &Key) -> Res
     put(table, key.copy()?, chain)
 }
 
-// Puts the versions at the key. After NoMemory the table is as before.
+/// Puts the versions at the key. After NoMemory the table is as before.
 fn put(table: &mut Index<Chain>, key: Key, chain: Chain) -> Result<(), NoMemory>
     ensures put { OnOk result (table.new ≡ with_pair table.old key chain) }
     ensures kept { OnErr result (table.new ≡ table.old) }
@@ -46,7 +46,7 @@ fn put(table: &mut Index<Chain>, key: Key, chain: Chain) -> Result<(), NoMemory>
     }
 }
 
-// Puts a first version at the key. After NoMemory the table is as before.
+/// Puts a first version at the key. After NoMemory the table is as before.
 pub(crate) fn load(
     alloc: Global,
     table: &mut Index<Chain>,
@@ -63,7 +63,7 @@ pub(crate) fn load(
     put(table, key, chain)
 }
 
-// Adds a version to the key's, for which there is room.
+/// Adds a version to the key's, for which there is room.
 pub(crate) fn install(table: &mut Index<Chain>, key: &Key, version: Version)
     requires room { 0 < room_of (value_at table.old key.now) }
     requires above { AreBelow version.mark (items_of (value_at table.old key.now)) }
@@ -75,7 +75,7 @@ pub(crate) fn install(table: &mut Index<Chain>, key: &Key, version: Version)
     }
 }
 
-// The least key from the bound on whose latest version puts a value, and that version's writer.
+/// The least key from the bound on whose latest version puts a value, and that version's writer.
 pub(crate) fn next_put<'t>(
     table: &'t Index<Chain>,
     from: &[u8],
@@ -94,7 +94,7 @@ pub(crate) fn next_put<'t>(
     None
 }
 
-// The writer of the latest version, where it puts a value.
+/// The writer of the latest version, where it puts a value.
 pub(crate) fn putter(chain: &Chain) -> Option<Tx>
     ensures { result ≡ putter (latest chain.now.items) }
 {
@@ -106,7 +106,7 @@ pub(crate) fn putter(chain: &Chain) -> Option<Tx>
     }
 }
 
-// The rows and looks of the range at a mark.
+/// The rows and looks of the range at a mark.
 pub(crate) fn scan(
     alloc: Global,
     table: &Index<Chain>,
@@ -131,7 +131,7 @@ pub(crate) fn scan(
     Ok(scanned)
 }
 
-// Notes the key where a version of it is seen at the mark.
+/// Notes the key where a version of it is seen at the mark.
 fn note(scanned: &mut Scanned, key: &Key, chain: &Chain, mark: u64) -> Result<(), NoMemory>
     ensures rows { OnOk result (scanned.new.rows.items ≡ scanned.old.rows.items ++ rows_seen mark ((key.now, chain.now) ∷ [])) }
     ensures looks { OnOk result (scanned.new.looks.items ≡ scanned.old.looks.items ++ looks_seen mark ((key.now, chain.now) ∷ [])) }
@@ -153,7 +153,7 @@ fn note(scanned: &mut Scanned, key: &Key, chain: &Chain, mark: u64) -> Result<()
     Ok(())
 }
 
-// The key is below the upper end of a range, which is no bound where it is empty.
+/// The key is below the upper end of a range, which is no bound where it is empty.
 fn is_below(key: &Key, high: &Bound) -> bool
     ensures { result ≡ (is_empty high.now || is_lt (key_cmp key.now high.now)) }
 {

@@ -1,4 +1,5 @@
 pub mod BlockLemmas
+pub mod LineAsks
 pub mod CutLemmas
 pub mod DecimalLemmas
 pub mod Fronts

@@ -5,6 +5,7 @@ use Rattle.std.specs.Prelude.{Ok, Err}
 use Rattle.ltx_text.specs.declared.piece.Piece.{Piece}
 use Rattle.ltx_text.specs.declared.piece.Piece.TheVariants.{Line, TooLong, End}
 use Rattle.ltx_text.specs.declared.piece.TextFault.{TextFault}
+use Rattle.ltx_text.specs.declared.piece.TextFault.TheVariants.{ReadFault, TooMuch, NoMemory}
 
 -- the pieces that a result gives: one for a line, which is its bytes or nothing, and none at the end or at a fault
 abbrev pub given : Result Piece TextFault → List (Option (List ℕ))
@@ -12,6 +13,13 @@ given (Ok (Line line)) = Some line.items ∷ []
 given (Ok TooLong) = None ∷ []
 given (Ok End) = []
 given (Err fault) = []
+
+-- how many calls of the source failed
+abbrev pub faults_among : {T : Type 0} → Result T TextFault → ℕ
+faults_among (Ok x) = 0
+faults_among (Err ReadFault) = 1
+faults_among (Err TooMuch) = 0
+faults_among (Err NoMemory) = 0
 
 -- a fact about the line, where the result is one
 abbrev pub OnLine : Result Piece TextFault → (List ℕ → Type 0) → Type 0

@@ -1,8 +1,9 @@
 //! The bytes that were taken from a source and not given yet, in a buffer of one size.
 //! They are moved to its front before a read alone, so that giving a line moves nothing.
-ghost use Rattle.std.specs.Prelude.{◌≡◌, ℕ, ◌+◌, ◌≤◌, ◌<◌, List, [], ◌++◌, length, drop, take, vec_len, IfOk, OnErr};
+ghost use Rattle.std.specs.Prelude.{◌≡◌, ℕ, ◌+◌, ◌≤◌, ◌<◌, List, [], ◌++◌, length, drop, take, vec_len, IfOk, OnOk, OnErr};
 ghost use Rattle.std.specs.Io.KnownBytes.{Consumes, IsAtEnd};
 ghost use Rattle.ltx_outside.specs.Faults.{Rose};
+ghost use Rattle.ltx_outside.specs.Reads.{CountsRead};
 
 use ltx_model::memory::NoMemory;
 use ltx_outside::{Failed, Source};
@@ -103,7 +104,9 @@ impl Block {
         ensures end { IfOk result (λ n. n ≡ 0 → IsAtEnd (S.left source.new)) }
         ensures kept { OnErr result ((held self.new ≡ held self.old)
             × (S.left source.new ≡ S.left source.old)) }
+        ensures asked { CountsRead (S.reads source.old) (S.reads source.new) result }
         ensures counted { S.faults source.old ≤ S.faults source.new }
+        ensures calm { OnOk result (S.faults source.new ≡ S.faults source.old) }
         ensures cause { OnErr result (Rose (S.faults source.old) (S.faults source.new)) }
     {
         let end = self.end;

@@ -30,6 +30,8 @@ mod tests {
 
         ghost left = { λ _. None };
 
+        ghost reads = { λ _. None };
+
         ghost faults = { λ s. s.0.calls.faults };
 
         fn read(&mut self, buffer: &mut [u8]) -> Result<usize, Failed> {

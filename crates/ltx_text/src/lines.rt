@@ -1,11 +1,12 @@
 //! The lines of a source, one at a time, for whoever runs a script.
-//! The bytes are taken in blocks, a read is made only where no whole line is held, and after a fault the
-//! pieces still to come are the same. A line that is held whole is lent to whoever wants no copy.
-ghost use Rattle.std.specs.Prelude.{◌≡◌, ℕ, List, Option, Some, ◌+◌, ◌-◌, ◌≤◌, ◌<◌, ◌↔◌, [], ◌∷◌, ◌++◌, length, take, drop, IfOk, IfSome, IfNone, OnOk, OnErr, IsErrOf, MatchBool, MatchOption};
+//! The bytes are taken in blocks, a read is made only where no whole line is held, the end is asked for once,
+//! and after a fault the pieces still to come are the same. A line that is held whole is lent to whoever wants
+//! no copy.
+ghost use Rattle.std.specs.Prelude.{◌≡◌, ℕ, List, Option, Some, ◌+◌, ◌-◌, ◌≤◌, ◌<◌, ◌↔◌, [], ◌∷◌, ◌++◌, length, take, drop, IfOk, IfSome, IfNone, IsSomeAnd, true, false, OnOk, OnErr, IsErrOf, MatchBool, MatchOption};
 ghost use Rattle.std.specs.Io.KnownBytes.{IsAtEnd};
 ghost use Rattle.ltx_outside.specs.Faults.{Rose};
-ghost use Rattle.ltx_text.specs.Lines.{Cuts, IsFirstFeed, LinesState, NoFeedAhead, feeds, fresh, piece_of, pieces_of, to_go};
-ghost use Rattle.ltx_text.specs.Pieces.{OnEnd, OnLine, given};
+ghost use Rattle.ltx_text.specs.Lines.{AsksOf, Cuts, IsFirstFeed, Knows, LinesState, NoFeedAhead, feeds, fresh, piece_of, pieces_of, to_go};
+ghost use Rattle.ltx_text.specs.Pieces.{OnEnd, OnLine, faults_among, given};
 
 use crate::block::{Block, MOST_READ};
 use crate::piece::{Piece, TextFault};
@@ -26,6 +27,7 @@ pub struct Lines {
     limit: u64,
     taken: u64,
     past: bool,
+    ended: bool,
 }
 
 impl Model for Lines {
@@ -35,7 +37,7 @@ impl Model for Lines {
 
     ghost Value = { LinesState };
 
-    ghost view = { λ l. record { held = held l.block; taken = l.taken + (if l.past then 1 else 0); limit = l.limit } };
+    ghost view = { λ l. record { held = held l.block; taken = l.taken + (if l.past then 1 else 0); limit = l.limit; ended = l.ended } };
 
     ghost invariant = { λ l. (l.taken ≤ l.limit) × (l.past ≡ true → l.taken ≡ l.limit) };
 }
@@ -52,6 +54,7 @@ impl Lines {
             limit,
             taken: 0,
             past: false,
+            ended: false,
         })
     }
 
@@ -60,21 +63,30 @@ impl Lines {
     /// After `ReadFault` and `NoMemory` the bytes already taken stay, so the pieces still to come are the
     /// same; of a line that is already too long its first 4,097 bytes stay, which say so. `TooMuch` comes
     /// where more than the limit was taken, at this call and at every later one.
+    ///
+    /// A reader goes with one source: it keeps in mind that the source was at its end, and asks no more.
     pub fn next<S: Source>(&mut self, source: &mut S) -> Result<Piece, TextFault>
-        ensures cuts { Cuts self.old self.new (S.left source.old) (S.left source.new) (given result) }
+        ensures cuts { Knows self.old (S.left source.old) →
+            Cuts self.old self.new (S.left source.old) (S.left source.new) (given result) }
+        ensures knows { Knows self.old (S.left source.old) → Knows self.new (S.left source.new) }
         ensures limit { self.new.limit ≡ self.old.limit }
 
-        // A read is made only where no whole line is held, and past the limit only where the limit was taken.
+        // A read is made only where no whole line is held, and past the limit only where the limit was taken; a read
+        // that gives nothing is the last one, and none is made after the end.
         ensures quiet { 0 < feeds self.old.held →
             (source.new ≡ source.old) × (self.new.taken ≡ self.old.taken) }
+        ensures once { self.old.ended ≡ true →
+            (source.new ≡ source.old) × (self.new.taken ≡ self.old.taken) × (self.new.ended ≡ true) }
+        ensures asks { AsksOf self.old self.new (S.left source.old) (S.reads source.old) (S.reads source.new) (faults_among result) }
         ensures least { self.new.taken ≤ self.new.limit + 1 }
 
         // Where each answer comes.
         ensures line { OnLine result (λ line. (length line ≤ 4096) × (feeds line ≡ 0)) }
-        ensures end { OnEnd result ((self.new.held ≡ []) × IsAtEnd (S.left source.new)) }
+        ensures end { OnEnd result ((self.new.held ≡ []) × (self.new.ended ≡ true)) }
         ensures too_much { IsErrOf result TextFault.TooMuch ↔ (self.new.limit < self.new.taken) }
-        ensures read_fault { IsErrOf result TextFault.ReadFault →
-            Rose (S.faults source.old) (S.faults source.new) }
+        ensures read_fault { IsErrOf result TextFault.ReadFault → (self.new.ended ≡ false)
+            × Rose (S.faults source.old) (S.faults source.new) }
+        ensures calm { (IsErrOf result TextFault.ReadFault → ⊥) → S.faults source.new ≡ S.faults source.old }
         ensures counted { S.faults source.old ≤ S.faults source.new }
 
         // At a fault of the source, and where the limit was passed in this call, no whole line was left.
@@ -87,6 +99,7 @@ impl Lines {
         }
         match first_feed(self.block.held()) {
             Some(at) => self.give_line(at),
+            None if self.ended => self.give_last(),
             None => self.take_line(source),
         }
     }
@@ -119,15 +132,20 @@ impl Lines {
     fn take_line<S: Source>(&mut self, source: &mut S) -> Result<Piece, TextFault>
         requires unended { feeds self.old.held ≡ 0 }
         requires within { self.old.taken ≤ self.old.limit }
+        requires unmet { self.old.ended ≡ false }
         ensures cuts { Cuts self.old self.new (S.left source.old) (S.left source.new) (given result) }
         ensures limit { self.new.limit ≡ self.old.limit }
+        ensures knows { Knows self.new (S.left source.new) }
+        ensures asks { AsksOf self.old self.new (S.left source.old) (S.reads source.old) (S.reads source.new) (faults_among result) }
         ensures least { self.new.taken ≤ self.new.limit + 1 }
         ensures line { OnLine result (λ line. (length line ≤ 4096) × (feeds line ≡ 0)) }
-        ensures end { OnEnd result ((self.new.held ≡ []) × IsAtEnd (S.left source.new)) }
+        ensures end { OnEnd result ((self.new.held ≡ []) × (self.new.ended ≡ true)) }
         ensures too_much { IsErrOf result TextFault.TooMuch ↔ (self.new.limit < self.new.taken) }
         ensures read_fault { IsErrOf result TextFault.ReadFault →
             (feeds self.new.held ≡ 0) × Rose (S.faults source.old) (S.faults source.new) }
+        ensures unmet { IsErrOf result TextFault.ReadFault → self.new.ended ≡ false }
         ensures no_line_below { IsErrOf result TextFault.TooMuch → NoFeedAhead self.old (S.left source.old) }
+        ensures calm { (IsErrOf result TextFault.ReadFault → ⊥) → S.faults source.new ≡ S.faults source.old }
         ensures counted { S.faults source.old ≤ S.faults source.new }
     {
         match self.fill(source)? {
@@ -140,16 +158,21 @@ impl Lines {
     fn fill<S: Source>(&mut self, source: &mut S) -> Result<Option<usize>, TextFault>
         requires unended { feeds self.old.held ≡ 0 }
         requires within { self.old.taken ≤ self.old.limit }
+        requires unmet { self.old.ended ≡ false }
         ensures cuts { Cuts self.old self.new (S.left source.old) (S.left source.new) [] }
         ensures limit { self.new.limit ≡ self.old.limit }
+        ensures asks { AsksOf self.old self.new (S.left source.old) (S.reads source.old) (S.reads source.new) (faults_among result) }
+        ensures knows { Knows self.new (S.left source.new) }
         ensures found { IfOk result (λ found. MatchOption found
-            (IsAtEnd (S.left source.new) × (feeds self.new.held ≡ 0)) (IsFirstFeed self.new.held)) }
+            ((self.new.ended ≡ true) × IsAtEnd (S.left source.new) × (feeds self.new.held ≡ 0)) (IsFirstFeed self.new.held)) }
         ensures within { OnOk result (self.new.taken ≤ self.new.limit) }
         ensures read_fault { IsErrOf result TextFault.ReadFault → (feeds self.new.held ≡ 0)
             × (self.new.taken ≤ self.new.limit) × Rose (S.faults source.old) (S.faults source.new) }
         ensures too_much { IsErrOf result TextFault.TooMuch → (self.new.taken ≡ self.new.limit + 1)
             × NoFeedAhead self.old (S.left source.old) }
+        ensures unmet { OnErr result (self.new.ended ≡ false) }
         ensures memory { IsErrOf result TextFault.NoMemory → ⊥ }
+        ensures calm { (IsErrOf result TextFault.ReadFault → ⊥) → S.faults source.new ≡ S.faults source.old }
         ensures counted { S.faults source.old ≤ S.faults source.new }
     {
         loop {
@@ -166,23 +189,32 @@ impl Lines {
     fn take_block<S: Source>(&mut self, source: &mut S) -> Result<bool, TextFault>
         requires unended { feeds self.old.held ≡ 0 }
         requires within { self.old.taken ≤ self.old.limit }
+        requires unmet { self.old.ended ≡ false }
         ensures cuts { Cuts self.old self.new (S.left source.old) (S.left source.new) [] }
         ensures limit { self.new.limit ≡ self.old.limit }
+        ensures asked { IfSome (S.reads source.old) (λ before. IsSomeAnd (S.reads source.new) (λ after.
+            (after.calls ≤ before.calls + 1) × (self.new.taken ≡ self.old.taken + after.last))) }
         ensures more { IfOk result (λ more. MatchBool more
-            (self.old.taken < self.new.taken) (IsAtEnd (S.left source.new) × (feeds self.new.held ≡ 0))) }
+            ((self.old.taken < self.new.taken) × (self.new.ended ≡ false))
+            ((self.new.ended ≡ true) × IsAtEnd (S.left source.new) × (feeds self.new.held ≡ 0))) }
+        ensures unmet { OnErr result (self.new.ended ≡ false) }
         ensures within { OnOk result (self.new.taken ≤ self.new.limit) }
         ensures read_fault { IsErrOf result TextFault.ReadFault → (feeds self.new.held ≡ 0)
             × (self.new.taken ≤ self.new.limit) × Rose (S.faults source.old) (S.faults source.new) }
         ensures too_much { IsErrOf result TextFault.TooMuch →
             (self.old.taken ≡ self.old.limit) × (self.new.taken ≡ self.new.limit + 1) }
         ensures memory { IsErrOf result TextFault.NoMemory → ⊥ }
+        ensures calm { (IsErrOf result TextFault.ReadFault → ⊥) → S.faults source.new ≡ S.faults source.old }
         ensures counted { S.faults source.old ≤ S.faults source.new }
     {
         let most = most_to_read(self.taken, self.limit);
         self.block.make_room();
         match self.block.read_from(source, most) {
             Err(_) => Err(TextFault::ReadFault),
-            Ok(0) => Ok(false),
+            Ok(0) => {
+                self.ended = true;
+                Ok(false)
+            }
             Ok(_) if self.taken == self.limit => {
                 self.past = true;
                 Err(TextFault::TooMuch)

@@ -13,7 +13,7 @@ use Rattle.ltx_model.specs.Answers.{answer, staged}
 use Rattle.ltx_core.specs.Built.{built}
 use Rattle.ltx_core.specs.Views.{CoreView}
 use Rattle.ltx_core.specs.Stands.{StandsFor}
-use Rattle.ltx_core.proofs.Stays.{quiet}
+use Rattle.ltx_core.proofs.StandsStill.{quiet}
 
 bad_reply : (s : State) (cause : Bad) → staged built s (lines.Bad cause) ≡ replies.Bad cause
 unfolding answer

@@ -6,10 +6,11 @@ mod call;
 mod ending;
 mod entries;
 mod output;
+mod pieces;
 mod responder;
 mod runner;
+mod serving;
 mod status;
-mod turns;
 mod words;
 
 pub use call::run;

@@ -16,6 +16,7 @@ pub(crate) fn hand_over<K: Sink>(text: &mut Vec<u8>, sink: &mut K) -> Result<(),
     ensures whole { OnOk result (Appends (K.written sink.old) (K.written sink.new) text.old.items × (text.new.items ≡ [])) }
     ensures front { (n : ℕ) × Appends (K.written sink.old) (K.written sink.new) (take n text.old.items) }
     ensures cause { IfErr result (λ stop. stop ≡ stops.Sink) }
+    ensures calm { OnOk result (K.faults sink.new ≡ K.faults sink.old) }
     ensures rose { OnErr result (Rose (K.faults sink.old) (K.faults sink.new)) }
     ensures counted { K.faults sink.old ≤ K.faults sink.new }
 {
@@ -33,6 +34,7 @@ pub(crate) fn relieve<K: Sink>(text: &mut Vec<u8>, sink: &mut K) -> Result<(), S
     ensures whole { OnOk result ((done : List ℕ) × Appends (K.written sink.old) (K.written sink.new) done × (done ++ text.new.items ≡ text.old.items)) }
     ensures front { (n : ℕ) × Appends (K.written sink.old) (K.written sink.new) (take n text.old.items) }
     ensures cause { IfErr result (λ stop. stop ≡ stops.Sink) }
+    ensures calm { OnOk result (K.faults sink.new ≡ K.faults sink.old) }
     ensures rose { OnErr result (Rose (K.faults sink.old) (K.faults sink.new)) }
     ensures counted { K.faults sink.old ≤ K.faults sink.new }
 {

@@ -1,20 +1,21 @@
 //! What answers the lines of a run: its core, and the text of their entries that is not written yet.
 
-ghost use Rattle.std.specs.Prelude.{◌≡◌, ◌≤◌, ℕ, List, Option, [], ◌∷◌, ◌++◌, false, IfOk, OnOk, OnErr, IfErr};
+ghost use Rattle.std.specs.Prelude.{◌≡◌, ◌≤◌, ℕ, List, [], ◌∷◌, ◌++◌, false, IfOk, OnOk, OnErr, IfErr};
 ghost use Rattle.ltx_model.specs.declared.replies.Entry.{Entry};
+ghost use Rattle.ltx_model.specs.States.{Base, base_of};
 ghost use Rattle.ltx_model.specs.Histories.{state};
 ghost use Rattle.ltx_core.specs.Stands.{StandsFor};
-ghost use Rattle.ltx_text.specs.Lines.{LinesState};
 ghost use Rattle.ltx_script.specs.Lines.{line_of};
-ghost use Rattle.ltx_top.specs.Transcripts.{empty_base, ending_of};
-ghost use Rattle.ltx_top.specs.Progress.{Devices, Ends, IsUnderWay, Progress, RoseAt};
+ghost use Rattle.ltx_top.specs.Transcripts.{ending_of};
+ghost use Rattle.ltx_top.specs.Endings.{RoseAt};
+ghost use Rattle.ltx_top.specs.Progress.{IsUnderWay};
 ghost use Rattle.ltx_top.specs.Spellings.{IsSpelt};
-ghost use Rattle.ltx_top.specs.Hands.{hand_with};
+ghost use Rattle.ltx_top.specs.Hands.{Responds, RespondsNot};
 
 use crate::ending::put_ending;
 use crate::output::relieve;
 use crate::status::Stop;
-use crate::turns::serve;
+use crate::serving::serve;
 use ltx_core::Core;
 use ltx_model::base::Recovered;
 use ltx_model::commands::Line;
@@ -35,9 +36,9 @@ pub(crate) struct Responder {
 }
 
 impl Responder {
-    /// One that has answered nothing yet, over no rows.
-    pub fn new(alloc: Global) -> Result<Responder, NoMemory>
-        ensures core { IfOk result (λ r. StandsFor r.core empty_base []) }
+    /// One that has answered nothing yet, over a base.
+    pub fn new(alloc: Global, base: Recovered) -> Result<Responder, NoMemory>
+        ensures core { IfOk result (λ r. (gate : ℕ) → StandsFor r.core (base_of base gate) []) }
         ensures text { IfOk result (λ r. r.text.items ≡ []) }
         ensures malformed { IfOk result (λ r. r.malformed ≡ false) }
     {
@@ -59,11 +60,10 @@ impl Responder {
     ) -> Result<(), Stop>
         requires under_way { IsUnderWay self.old.core }
         requires spelt { IsSpelt line.now bytes.now }
-        ensures on { OnOk result ((start : Devices) (left : Option (List ℕ)) (reader : LinesState) → Progress start (record { left = left; written = K.written sink.old }) (hand_with reader self.old) (line.now ∷ [])
-            → Progress start (record { left = left; written = K.written sink.new }) (hand_with reader self.new) []) }
-        ensures stops { IfErr result (λ stop. (start : Devices) (left : Option (List ℕ)) (reader : LinesState) → Progress start (record { left = left; written = K.written sink.old }) (hand_with reader self.old) (line.now ∷ [])
-            → Ends stop start (record { left = left; written = K.written sink.new }) self.new.text.items) }
-        ensures rose { IfErr result (λ stop. (s s' : ℕ) → RoseAt stop s s' (K.faults sink.old) (K.faults sink.new)) }
+        ensures on { OnOk result (Responds (K.written sink.old) self.old (line.now ∷ []) (K.written sink.new) self.new) }
+        ensures stops { IfErr result (λ stop. RespondsNot stop (K.written sink.old) self.old (line.now ∷ []) (K.written sink.new) self.new) }
+        ensures calm { OnOk result (K.faults sink.new ≡ K.faults sink.old) }
+        ensures rose { IfErr result (λ stop. (s : ℕ) → RoseAt stop s s (K.faults sink.old) (K.faults sink.new)) }
         ensures counted { K.faults sink.old ≤ K.faults sink.new }
     {
         match serve(&mut self.core, line, bytes, &mut self.text) {
@@ -78,11 +78,10 @@ impl Responder {
     /// Answers the line of these bytes.
     pub fn answer_bytes<K: Sink>(&mut self, bytes: &[u8], sink: &mut K) -> Result<(), Stop>
         requires under_way { IsUnderWay self.old.core }
-        ensures on { OnOk result ((start : Devices) (left : Option (List ℕ)) (reader : LinesState) → Progress start (record { left = left; written = K.written sink.old }) (hand_with reader self.old) (line_of bytes.now ∷ [])
-            → Progress start (record { left = left; written = K.written sink.new }) (hand_with reader self.new) []) }
-        ensures stops { IfErr result (λ stop. (start : Devices) (left : Option (List ℕ)) (reader : LinesState) → Progress start (record { left = left; written = K.written sink.old }) (hand_with reader self.old) (line_of bytes.now ∷ [])
-            → Ends stop start (record { left = left; written = K.written sink.new }) self.new.text.items) }
-        ensures rose { IfErr result (λ stop. (s s' : ℕ) → RoseAt stop s s' (K.faults sink.old) (K.faults sink.new)) }
+        ensures on { OnOk result (Responds (K.written sink.old) self.old (line_of bytes.now ∷ []) (K.written sink.new) self.new) }
+        ensures stops { IfErr result (λ stop. RespondsNot stop (K.written sink.old) self.old (line_of bytes.now ∷ []) (K.written sink.new) self.new) }
+        ensures calm { OnOk result (K.faults sink.new ≡ K.faults sink.old) }
+        ensures rose { IfErr result (λ stop. (s : ℕ) → RoseAt stop s s (K.faults sink.old) (K.faults sink.new)) }
         ensures counted { K.faults sink.old ≤ K.faults sink.new }
     {
         match parse_line(self.alloc, bytes) {
@@ -93,7 +92,8 @@ impl Responder {
 
     /// Gathers the ending. After want of memory the gathered text is as before.
     pub fn close(&mut self) -> Result<(), NoMemory>
-        ensures ending { OnOk result ((history : List Entry) → StandsFor self.old.core empty_base history → self.new.text.items ≡ self.old.text.items ++ ending_of (state empty_base history)) }
+        ensures ending { OnOk result ((base : Base) (history : List Entry) → StandsFor self.old.core base history
+            → self.new.text.items ≡ self.old.text.items ++ ending_of (state base history)) }
         ensures kept { OnErr result (self.new.text.items ≡ self.old.text.items) }
         ensures same { self.new.malformed ≡ self.old.malformed }
     {

@@ -2,22 +2,24 @@
 
 ghost use Rattle.std.specs.Prelude.{◌≡◌, ◌≤◌, ◌<◌, ℕ, List, Option, [], take, length, true, false, Ok, IfOk, OnOk, IfErr};
 ghost use Rattle.std.specs.Io.KnownBytes.{Appends, IsAtEnd};
+ghost use Rattle.ltx_model.specs.States.{base_of};
 ghost use Rattle.ltx_core.specs.Stands.{StandsFor};
+ghost use Rattle.ltx_outside.specs.Reads.{Reads};
 ghost use Rattle.ltx_text.specs.Lines.{fresh, to_go};
 ghost use Rattle.ltx_text.specs.Pieces.{OnEnd};
-ghost use Rattle.ltx_top.specs.Transcripts.{empty_base};
-ghost use Rattle.ltx_top.specs.Runs.{Ran, most_of_script, took};
-ghost use Rattle.ltx_top.specs.Endings.{Stops};
-ghost use Rattle.ltx_top.specs.Progress.{Devices, Ends, IsUnderWay, Progress, RoseAt};
+ghost use Rattle.ltx_top.specs.Runs.{Ran, devices, most_of_script, took};
+ghost use Rattle.ltx_top.specs.Endings.{RoseAt, Stops};
+ghost use Rattle.ltx_top.specs.Progress.{Halts, IsUnderWay, Progress, Start, Steps};
 ghost use Rattle.ltx_top.specs.Spellings.{lines_in};
-ghost use Rattle.ltx_top.specs.Hands.{hand_of};
+ghost use Rattle.ltx_top.specs.Hands.{Answers, AnswersNot, hand_of};
 ghost use Rattle.ltx_text.specs.declared.piece.Piece.TheVariants.{End};
 ghost use Rattle.ltx_top.specs.declared.status.Stop.TheVariants as stops;
 
 use crate::output::hand_over;
+use crate::pieces::next_piece;
 use crate::responder::Responder;
 use crate::status::Stop;
-use crate::turns::next_piece;
+use ltx_model::base::Recovered;
 use ltx_model::commands::{Bad, Line};
 use ltx_model::memory::NoMemory;
 use ltx_outside::{Sink, Source};
@@ -36,29 +38,28 @@ pub(crate) struct Runner {
 }
 
 impl Runner {
-    /// A run that has read nothing yet, over no rows.
-    pub fn new(alloc: Global) -> Result<Runner, NoMemory>
+    /// A run that has read nothing yet, over a base.
+    pub fn new(alloc: Global, base: Recovered) -> Result<Runner, NoMemory>
         ensures lines { IfOk result (λ s. s.lines ≡ fresh most_of_script) }
-        ensures core { IfOk result (λ s. StandsFor s.responder.core empty_base []) }
+        ensures core { IfOk result (λ s. (gate : ℕ) → StandsFor s.responder.core (base_of base gate) []) }
         ensures text { IfOk result (λ s. s.responder.text.items ≡ []) }
         ensures malformed { IfOk result (λ s. s.responder.malformed ≡ false) }
     {
         Ok(Runner {
             lines: Lines::new(alloc, MOST_OF_SCRIPT)?,
-            responder: Responder::new(alloc)?,
+            responder: Responder::new(alloc, base)?,
         })
     }
 
     /// Answers the next line where it is held whole: no read is made. False where it is not.
     fn answer_held<K: Sink>(&mut self, sink: &mut K) -> Result<bool, Stop>
         requires under_way { IsUnderWay self.old.responder.core }
-        ensures on { OnOk result ((start : Devices) (left : Option (List ℕ)) → Progress start (record { left = left; written = K.written sink.old }) (hand_of self.old) []
-            → Progress start (record { left = left; written = K.written sink.new }) (hand_of self.new) []) }
+        ensures on { OnOk result (Answers (K.written sink.old) self.old [] (K.written sink.new) self.new) }
         ensures less { IfOk result (λ held. held ≡ true → to_go self.new.lines < to_go self.old.lines) }
         ensures idle { IfOk result (λ held. held ≡ false → self.new ≡ self.old) }
-        ensures stops { IfErr result (λ stop. (start : Devices) (left : Option (List ℕ)) → Progress start (record { left = left; written = K.written sink.old }) (hand_of self.old) []
-            → Ends stop start (record { left = left; written = K.written sink.new }) self.new.responder.text.items) }
-        ensures rose { IfErr result (λ stop. (s s' : ℕ) → RoseAt stop s s' (K.faults sink.old) (K.faults sink.new)) }
+        ensures stops { IfErr result (λ stop. AnswersNot stop (K.written sink.old) self.old [] (K.written sink.new) self.new) }
+        ensures calm { OnOk result (K.faults sink.new ≡ K.faults sink.old) }
+        ensures rose { IfErr result (λ stop. (s : ℕ) → RoseAt stop s s (K.faults sink.old) (K.faults sink.new)) }
         ensures counted { K.faults sink.old ≤ K.faults sink.new }
     {
         let Runner { lines, responder } = self;
@@ -81,12 +82,14 @@ impl Runner {
         source: &mut S,
         sink: &mut K,
     ) -> Result<Piece, Stop>
-        ensures on { IfOk result (λ piece. (start : Devices) → Progress start (record { left = S.left source.old; written = K.written sink.old }) (hand_of self.old) []
-            → Progress start (record { left = S.left source.new; written = K.written sink.new }) (hand_of self.new) (lines_in piece)) }
+        requires under_way { (start : Start) × Progress start (devices (S.left source.old) (S.reads source.old) (K.written sink.old)) (hand_of self.old) [] }
+        ensures on { IfOk result (λ piece. Steps (devices (S.left source.old) (S.reads source.old) (K.written sink.old)) (hand_of self.old) []
+            (devices (S.left source.new) (S.reads source.new) (K.written sink.new)) (hand_of self.new) (lines_in piece)) }
         ensures ended { IfOk result (λ piece. OnEnd (Ok piece) ((self.new.lines.held ≡ []) × IsAtEnd (S.left source.new))) }
         ensures less { IfOk result (λ piece. 0 < length (lines_in piece) → to_go self.new.lines < to_go self.old.lines) }
-        ensures stops { IfErr result (λ stop. (start : Devices) → Progress start (record { left = S.left source.old; written = K.written sink.old }) (hand_of self.old) []
-            → Ends stop start (record { left = S.left source.new; written = K.written sink.new }) self.new.responder.text.items) }
+        ensures stops { IfErr result (λ stop. Halts stop (devices (S.left source.old) (S.reads source.old) (K.written sink.old)) (hand_of self.old) []
+            (devices (S.left source.new) (S.reads source.new) (K.written sink.new)) self.new.responder.text.items) }
+        ensures calm { OnOk result ((S.faults source.new ≡ S.faults source.old) × (K.faults sink.new ≡ K.faults sink.old)) }
         ensures rose { IfErr result (λ stop. RoseAt stop (S.faults source.old) (S.faults source.new) (K.faults sink.old) (K.faults sink.new)) }
         ensures source_counted { S.faults source.old ≤ S.faults source.new }
         ensures sink_counted { K.faults sink.old ≤ K.faults sink.new }
@@ -100,14 +103,13 @@ impl Runner {
     /// Answers a piece of the script. False at the end of the script.
     fn answer_piece<K: Sink>(&mut self, piece: Piece, sink: &mut K) -> Result<bool, Stop>
         requires under_way { IsUnderWay self.old.responder.core }
-        ensures on { OnOk result ((start : Devices) (left : Option (List ℕ)) → Progress start (record { left = left; written = K.written sink.old }) (hand_of self.old) (lines_in piece)
-            → Progress start (record { left = left; written = K.written sink.new }) (hand_of self.new) []) }
+        ensures on { OnOk result (Answers (K.written sink.old) self.old (lines_in piece) (K.written sink.new) self.new) }
         ensures same { self.new.lines ≡ self.old.lines }
         ensures more { IfOk result (λ more. more ≡ true → 0 < length (lines_in piece)) }
         ensures ended { IfOk result (λ more. more ≡ false → piece ≡ End) }
-        ensures stops { IfErr result (λ stop. (start : Devices) (left : Option (List ℕ)) → Progress start (record { left = left; written = K.written sink.old }) (hand_of self.old) (lines_in piece)
-            → Ends stop start (record { left = left; written = K.written sink.new }) self.new.responder.text.items) }
-        ensures rose { IfErr result (λ stop. (s s' : ℕ) → RoseAt stop s s' (K.faults sink.old) (K.faults sink.new)) }
+        ensures stops { IfErr result (λ stop. AnswersNot stop (K.written sink.old) self.old (lines_in piece) (K.written sink.new) self.new) }
+        ensures calm { OnOk result (K.faults sink.new ≡ K.faults sink.old) }
+        ensures rose { IfErr result (λ stop. (s : ℕ) → RoseAt stop s s (K.faults sink.old) (K.faults sink.new)) }
         ensures counted { K.faults sink.old ≤ K.faults sink.new }
     {
         match piece {
@@ -132,13 +134,14 @@ impl Runner {
         source: &mut S,
         sink: &mut K,
     ) -> Result<bool, Stop>
-        requires under_way { (start : Devices) × Progress start (record { left = S.left source.old; written = K.written sink.old }) (hand_of self.old) [] }
-        ensures on { OnOk result ((start : Devices) → Progress start (record { left = S.left source.old; written = K.written sink.old }) (hand_of self.old) []
-            → Progress start (record { left = S.left source.new; written = K.written sink.new }) (hand_of self.new) []) }
+        requires under_way { (start : Start) × Progress start (devices (S.left source.old) (S.reads source.old) (K.written sink.old)) (hand_of self.old) [] }
+        ensures on { OnOk result (Steps (devices (S.left source.old) (S.reads source.old) (K.written sink.old)) (hand_of self.old) []
+            (devices (S.left source.new) (S.reads source.new) (K.written sink.new)) (hand_of self.new) []) }
         ensures ended { IfOk result (λ more. more ≡ false → (self.new.lines.held ≡ []) × IsAtEnd (S.left source.new)) }
         ensures less { IfOk result (λ more. more ≡ true → to_go self.new.lines < to_go self.old.lines) }
-        ensures stops { IfErr result (λ stop. (start : Devices) → Progress start (record { left = S.left source.old; written = K.written sink.old }) (hand_of self.old) []
-            → Ends stop start (record { left = S.left source.new; written = K.written sink.new }) self.new.responder.text.items) }
+        ensures stops { IfErr result (λ stop. Halts stop (devices (S.left source.old) (S.reads source.old) (K.written sink.old)) (hand_of self.old) []
+            (devices (S.left source.new) (S.reads source.new) (K.written sink.new)) self.new.responder.text.items) }
+        ensures calm { OnOk result ((S.faults source.new ≡ S.faults source.old) × (K.faults sink.new ≡ K.faults sink.old)) }
         ensures rose { IfErr result (λ stop. RoseAt stop (S.faults source.old) (S.faults source.new) (K.faults sink.old) (K.faults sink.new)) }
         ensures source_counted { S.faults source.old ≤ S.faults source.new }
         ensures sink_counted { K.faults sink.old ≤ K.faults sink.new }
@@ -151,13 +154,14 @@ impl Runner {
 
     /// Answers the next line. False at the end of the script.
     fn turn<S: Source, K: Sink>(&mut self, source: &mut S, sink: &mut K) -> Result<bool, Stop>
-        requires under_way { (start : Devices) × Progress start (record { left = S.left source.old; written = K.written sink.old }) (hand_of self.old) [] }
-        ensures on { OnOk result ((start : Devices) → Progress start (record { left = S.left source.old; written = K.written sink.old }) (hand_of self.old) []
-            → Progress start (record { left = S.left source.new; written = K.written sink.new }) (hand_of self.new) []) }
+        requires under_way { (start : Start) × Progress start (devices (S.left source.old) (S.reads source.old) (K.written sink.old)) (hand_of self.old) [] }
+        ensures on { OnOk result (Steps (devices (S.left source.old) (S.reads source.old) (K.written sink.old)) (hand_of self.old) []
+            (devices (S.left source.new) (S.reads source.new) (K.written sink.new)) (hand_of self.new) []) }
         ensures ended { IfOk result (λ more. more ≡ false → (self.new.lines.held ≡ []) × IsAtEnd (S.left source.new)) }
         ensures less { IfOk result (λ more. more ≡ true → to_go self.new.lines < to_go self.old.lines) }
-        ensures stops { IfErr result (λ stop. (start : Devices) → Progress start (record { left = S.left source.old; written = K.written sink.old }) (hand_of self.old) []
-            → Ends stop start (record { left = S.left source.new; written = K.written sink.new }) self.new.responder.text.items) }
+        ensures stops { IfErr result (λ stop. Halts stop (devices (S.left source.old) (S.reads source.old) (K.written sink.old)) (hand_of self.old) []
+            (devices (S.left source.new) (S.reads source.new) (K.written sink.new)) self.new.responder.text.items) }
+        ensures calm { OnOk result ((S.faults source.new ≡ S.faults source.old) × (K.faults sink.new ≡ K.faults sink.old)) }
         ensures rose { IfErr result (λ stop. RoseAt stop (S.faults source.old) (S.faults source.new) (K.faults sink.old) (K.faults sink.new)) }
         ensures source_counted { S.faults source.old ≤ S.faults source.new }
         ensures sink_counted { K.faults sink.old ≤ K.faults sink.new }
@@ -171,12 +175,13 @@ impl Runner {
 
     /// Answers all lines.
     fn answer_all<S: Source, K: Sink>(&mut self, source: &mut S, sink: &mut K) -> Result<(), Stop>
-        requires under_way { (start : Devices) × Progress start (record { left = S.left source.old; written = K.written sink.old }) (hand_of self.old) [] }
-        ensures on { OnOk result ((start : Devices) → Progress start (record { left = S.left source.old; written = K.written sink.old }) (hand_of self.old) []
-            → Progress start (record { left = S.left source.new; written = K.written sink.new }) (hand_of self.new) []) }
+        requires under_way { (start : Start) × Progress start (devices (S.left source.old) (S.reads source.old) (K.written sink.old)) (hand_of self.old) [] }
+        ensures on { OnOk result (Steps (devices (S.left source.old) (S.reads source.old) (K.written sink.old)) (hand_of self.old) []
+            (devices (S.left source.new) (S.reads source.new) (K.written sink.new)) (hand_of self.new) []) }
         ensures ended { OnOk result ((self.new.lines.held ≡ []) × IsAtEnd (S.left source.new)) }
-        ensures stops { IfErr result (λ stop. (start : Devices) → Progress start (record { left = S.left source.old; written = K.written sink.old }) (hand_of self.old) []
-            → Ends stop start (record { left = S.left source.new; written = K.written sink.new }) self.new.responder.text.items) }
+        ensures stops { IfErr result (λ stop. Halts stop (devices (S.left source.old) (S.reads source.old) (K.written sink.old)) (hand_of self.old) []
+            (devices (S.left source.new) (S.reads source.new) (K.written sink.new)) self.new.responder.text.items) }
+        ensures calm { OnOk result ((S.faults source.new ≡ S.faults source.old) × (K.faults sink.new ≡ K.faults sink.old)) }
         ensures rose { IfErr result (λ stop. RoseAt stop (S.faults source.old) (S.faults source.new) (K.faults sink.old) (K.faults sink.new)) }
         ensures source_counted { S.faults source.old ≤ S.faults source.new }
         ensures sink_counted { K.faults sink.old ≤ K.faults sink.new }
@@ -203,12 +208,13 @@ impl Runner {
 
     /// Prints the ending.
     fn finish<K: Sink>(&mut self, sink: &mut K) -> Result<(), Stop>
-        ensures ran { OnOk result ((start : Devices) (left : Option (List ℕ)) → self.old.lines.held ≡ [] → IsAtEnd left → Progress start (record { left = left; written = K.written sink.old }) (hand_of self.old) []
-            → Ran start.left left start.written (K.written sink.new) self.old.responder.malformed) }
+        ensures ran { OnOk result ((start : Start) (left : Option (List ℕ)) (reads : Option Reads) → self.old.lines.held ≡ [] → IsAtEnd left
+            → Progress start (devices left reads (K.written sink.old)) (hand_of self.old) [] → Ran start.base start.old (devices left reads (K.written sink.new)) self.old.responder.malformed) }
         ensures same { self.new.responder.malformed ≡ self.old.responder.malformed }
-        ensures stops { IfErr result (λ stop. (start : Devices) (left : Option (List ℕ)) → self.old.lines.held ≡ [] → IsAtEnd left → Progress start (record { left = left; written = K.written sink.old }) (hand_of self.old) []
-            → Stops stop start.left left start.written (K.written sink.new)) }
-        ensures rose { IfErr result (λ stop. (s s' : ℕ) → RoseAt stop s s' (K.faults sink.old) (K.faults sink.new)) }
+        ensures stops { IfErr result (λ stop. (start : Start) (left : Option (List ℕ)) (reads : Option Reads) → self.old.lines.held ≡ [] → IsAtEnd left
+            → Progress start (devices left reads (K.written sink.old)) (hand_of self.old) [] → Stops stop start.base start.old (devices left reads (K.written sink.new))) }
+        ensures calm { OnOk result (K.faults sink.new ≡ K.faults sink.old) }
+        ensures rose { IfErr result (λ stop. (s : ℕ) → RoseAt stop s s (K.faults sink.old) (K.faults sink.new)) }
         ensures counted { K.faults sink.old ≤ K.faults sink.new }
     {
         match self.responder.close() {
@@ -219,11 +225,12 @@ impl Runner {
 
     /// Answers all lines and prints the ending.
     pub fn work<S: Source, K: Sink>(&mut self, source: &mut S, sink: &mut K) -> Result<(), Stop>
-        requires under_way { (start : Devices) × Progress start (record { left = S.left source.old; written = K.written sink.old }) (hand_of self.old) [] }
-        ensures ran { OnOk result ((start : Devices) → Progress start (record { left = S.left source.old; written = K.written sink.old }) (hand_of self.old) []
-            → Ran start.left (S.left source.new) start.written (K.written sink.new) self.new.responder.malformed × (took start.left (S.left source.new) ≤ most_of_script)) }
-        ensures stops { IfErr result (λ stop. (start : Devices) → Progress start (record { left = S.left source.old; written = K.written sink.old }) (hand_of self.old) []
-            → Stops stop start.left (S.left source.new) start.written (K.written sink.new)) }
+        requires under_way { (start : Start) × Progress start (devices (S.left source.old) (S.reads source.old) (K.written sink.old)) (hand_of self.old) [] }
+        ensures ran { OnOk result ((start : Start) → Progress start (devices (S.left source.old) (S.reads source.old) (K.written sink.old)) (hand_of self.old) []
+            → Ran start.base start.old (devices (S.left source.new) (S.reads source.new) (K.written sink.new)) self.new.responder.malformed × (took start.old.left (S.left source.new) ≤ most_of_script)) }
+        ensures stops { IfErr result (λ stop. (start : Start) → Progress start (devices (S.left source.old) (S.reads source.old) (K.written sink.old)) (hand_of self.old) []
+            → Stops stop start.base start.old (devices (S.left source.new) (S.reads source.new) (K.written sink.new))) }
+        ensures calm { OnOk result ((S.faults source.new ≡ S.faults source.old) × (K.faults sink.new ≡ K.faults sink.old)) }
         ensures rose { IfErr result (λ stop. RoseAt stop (S.faults source.old) (S.faults source.new) (K.faults sink.old) (K.faults sink.new)) }
         ensures source_counted { S.faults source.old ≤ S.faults source.new }
         ensures sink_counted { K.faults sink.old ≤ K.faults sink.new }

@@ -16,9 +16,8 @@ use Rattle.ltx_model.specs.NextKeys.{reaches}
 use Rattle.ltx_model.specs.Notes.{found_by, look_of, is_one_of, found_in, asks}
 use Rattle.ltx_validate.specs.Differences.{at, AreRisingLooks, IsOrdered, IsSame, IsLeastDifference, Tells}
 use Rattle.ltx_validate.specs.Turns.{Turning, turn_by, turn_of, IsNextRow, NextRow, IsWalk}
-use Rattle.ltx_validate.proofs.Keys.{trans, past_reaches}
 use Rattle.ltx_model.proofs.Orderings.{is_less}
-use Rattle.ltx_model.proofs.KeyOrder.{key_turned, key_itself, same_keys, not_past, below_end_lesser}
+use Rattle.ltx_model.proofs.KeyOrder.{key_turned, key_itself, same_keys, not_past, below_end_lesser, key_total, reaches_past}
 
 -- a key that all looks are above has none
 abbrev AreAbove : List ℕ → List Look → Type 0
@@ -30,7 +29,7 @@ look_none key (look ∷ rest) above = rw (key_turned key look.key Less above.0) 
 
 above_lesser : (key k : List ℕ) (looks : List Look) → key_cmp key k ≡ Less → AreAbove k looks → AreAbove key looks
 above_lesser key k [] less above = tt
-above_lesser key k (look ∷ rest) less above = (trans key k look.key less above.0, above_lesser key k rest less above.1)
+above_lesser key k (look ∷ rest) less above = (key_total.trans key k look.key less above.0, above_lesser key k rest less above.1)
 
 above_reached : (key : List ℕ) (looks : List Look) → AreAbove key looks → AllByRecursion (λ look. reaches key true look.key ≡ true) looks
 above_reached key [] above = tt
@@ -69,12 +68,12 @@ module _ (rows : List StoredRow) (table : ℕ) (high from : List ℕ) (strict : 
     found = ap found_in (look_here look rest);
     current = n.least look.key reached is;
     no_look = λ key less. look_none key (look ∷ rest) (less, above_lesser key look.key rest less rising.0);
-    no_row = λ key at_key less. n.least key at_key (trans key look.key row.0 less is);
+    no_row = λ key at_key less. n.least key at_key (key_total.trans key look.key row.0 less is);
     left_rising = rising.1;
     left_reached = above_reached look.key rest rising.0;
     left_below = below.1;
     same_looks = look_past look rest;
-    kept = λ _. record { reached = ap is_lt is; below = n.below; written = n.written; least = λ key at_key less. n.least key (past_reaches from strict look.key key reached (is_less (key_cmp look.key key) at_key)) less };
+    kept = λ _. record { reached = ap is_lt is; below = n.below; written = n.written; least = λ key at_key less. n.least key (reaches_past from strict look.key key (is_less (key_cmp look.key key) at_key) reached) less };
   }
   turned_by Equal look rest row is rising reached below n = record {
     reached = reached;
@@ -120,7 +119,7 @@ module _ (rows : List StoredRow) (table : ℕ) (high from : List ℕ) (strict : 
     left_reached = above_reached look.key rest rising.0;
     left_below = below.1;
     same_looks = look_past look rest;
-    kept = λ _ key at_key under. n key (past_reaches from strict look.key key reached (is_less (key_cmp look.key key) at_key)) under;
+    kept = λ _ key at_key under. n key (reaches_past from strict look.key key (is_less (key_cmp look.key key) at_key) reached) under;
   }
 
   turned_row : (row : List ℕ × ℕ) → IsNextRow rows table high from strict row → IsTurned [] (Some row) (record { key = row.0; found = None; current = Some row.1; left = [] })
@@ -231,8 +230,8 @@ module _ (rows : List StoredRow) (table : ℕ) (low high : List ℕ) (looks : Li
         from = t.key;
         strict = true;
         settled = λ key short. by_place key (not_past t.key key short);
-        above_low = λ key reached. w.above_low key (past_reaches w.from w.strict t.key key taken.reached (is_less (key_cmp t.key key) reached));
-        same_looks = λ key reached. taken.same_looks key (is_less (key_cmp t.key key) reached) ∙ w.same_looks key (past_reaches w.from w.strict t.key key taken.reached (is_less (key_cmp t.key key) reached));
+        above_low = λ key reached. w.above_low key (reaches_past w.from w.strict t.key key (is_less (key_cmp t.key key) reached) taken.reached);
+        same_looks = λ key reached. taken.same_looks key (is_less (key_cmp t.key key) reached) ∙ w.same_looks key (reaches_past w.from w.strict t.key key (is_less (key_cmp t.key key) reached) taken.reached);
         left_rising = taken.left_rising;
         left_reached = taken.left_reached;
         left_below = taken.left_below;

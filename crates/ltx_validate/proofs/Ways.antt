@@ -15,9 +15,8 @@ use Rattle.ltx_model.specs.Notes.{is_one_of}
 use Rattle.ltx_model.specs.Shorts.{same_writer}
 use Rattle.ltx_validate.specs.Differences.{at, IsOrdered, IsLeastDifference, Tells}
 use Rattle.ltx_validate.specs.Turns.{Turning, turn_by, turn_of, NextRow, IsOnWay, rows_from, turns_left}
-use Rattle.ltx_validate.proofs.Keys.{trans}
 use Rattle.ltx_model.proofs.Orderings.{is_less}
-use Rattle.ltx_model.proofs.KeyOrder.{key_turned, key_itself, same_keys}
+use Rattle.ltx_model.proofs.KeyOrder.{key_turned, key_itself, same_keys, key_total}
 use Rattle.ltx_model.proofs.CellOrder.{same_cell_same}
 use Rattle.ltx_validate.proofs.Walks.{walk_start, walk_end, walk_differs, walk_more, row_kept}
 
@@ -107,7 +106,7 @@ module _ (table : ℕ) where
       let both = and_parts (r.table == table) (is_le (key_cmp k r.key)) e in
       rw (both.0, by_order (key_cmp k r.key) refl both.1) refl where
         by_order : (o : Ordering) → key_cmp k r.key ≡ o → is_le o ≡ true → is_le (key_cmp key r.key) ≡ true
-        by_order Less is h = ap is_le (trans key k r.key less is)
+        by_order Less is h = ap is_le (key_total.trans key k r.key less is)
         by_order Equal is h = ap is_le (ap (key_cmp key) (sym (same_keys k r.key is)) ∙ less)
         by_order Greater is h = cc
 

@@ -7,7 +7,7 @@ use Rattle.std.specs.Ordering.{is_le, is_lt}
 use Rattle.ltx_model.specs.declared.rows.StoredRow.{StoredRow}
 use Rattle.ltx_model.specs.declared.writes.Look.{Look}
 use Rattle.ltx_model.specs.declared.looked.Reach.TheVariants.{Range}
-use Rattle.ltx_model.specs.Keys.{key_cmp, is_empty}
+use Rattle.ltx_model.specs.Keys.{key_cmp, is_below_end}
 use Rattle.ltx_model.specs.StoredRows.{writer_at}
 use Rattle.ltx_model.specs.NextKeys.{reaches}
 use Rattle.ltx_model.specs.Notes.{found_by, look_of}
@@ -33,19 +33,15 @@ turn_of [] (Some row) = Some (record { key = row.0; found = None; current = Some
 turn_of (look ∷ rest) None = Some (record { key = look.key; found = found_by look; current = None; left = rest })
 turn_of (look ∷ rest) (Some row) = Some (turn_by (key_cmp look.key row.0) look rest row)
 
--- the key is below the upper end of a range, which is no bound where it is empty
-abbrev pub is_below : List ℕ → List ℕ → Bool
-is_below high key = is_empty high || is_lt (key_cmp key high)
-
 -- the row that comes next from a bound on is the least one below the upper end
 pub record IsNextRow (rows : List StoredRow) (table : ℕ) (high from : List ℕ) (strict : Bool) (row : List ℕ × ℕ) : Type 0 where
   pub reached : reaches from strict row.0 ≡ true
-  pub below : is_below high row.0 ≡ true
+  pub below : is_below_end high row.0 ≡ true
   pub written : writer_at rows (at table row.0) ≡ Some row.1
   pub least : (key : List ℕ) → reaches from strict key ≡ true → key_cmp key row.0 ≡ Less → writer_at rows (at table key) ≡ None
 
 abbrev pub NextRow : List StoredRow → ℕ → List ℕ → List ℕ → Bool → Option (List ℕ × ℕ) → Type 0
-NextRow rows table high from strict None = (key : List ℕ) → reaches from strict key ≡ true → is_below high key ≡ true → writer_at rows (at table key) ≡ None
+NextRow rows table high from strict None = (key : List ℕ) → reaches from strict key ≡ true → is_below_end high key ≡ true → writer_at rows (at table key) ≡ None
 NextRow rows table high from strict (Some row) = IsNextRow rows table high from strict row
 
 -- Keys of the range that do not reach the bound have the writers that they had. The looks and the row that are left are those of the others.
@@ -57,7 +53,7 @@ pub record IsWalk (rows : List StoredRow) (table : ℕ) (low high : List ℕ) (l
   pub same_looks : (key : List ℕ) → reaches from strict key ≡ true → look_of left key ≡ look_of looks key
   pub left_rising : AreRisingLooks left
   pub left_reached : AllByRecursion (λ look. reaches from strict look.key ≡ true) left
-  pub left_below : AllByRecursion (λ look. is_below high look.key ≡ true) left
+  pub left_below : AllByRecursion (λ look. is_below_end high look.key ≡ true) left
   pub next_row : NextRow rows table high from strict next
 
 -- The same where the lists of the range stand in order. The next row is one of the table.

@@ -47,7 +47,7 @@ pub fn check_short<L: Latest>(tx: &ShortTx, latest: &L) -> Result<Verdict, NoMem
     Ok(Verdict::Pass)
 }
 
-// The verdict on a difference at an operation.
+/// The verdict on a difference at an operation.
 fn changed(op: u32, table: Table, difference: Difference) -> Verdict
     ensures { change_in result ≡ Some (record { op = op; cell = record { table = table; key = difference.key }; found = difference.found; current = difference.current }) }
 {
@@ -65,7 +65,7 @@ fn changed(op: u32, table: Table, difference: Difference) -> Verdict
     }
 }
 
-// The least key that the noted operation looked up and that has another writer now.
+/// The least key that the noted operation looked up and that has another writer now.
 fn difference_at<L: Latest>(latest: &L, note: &Noted) -> Result<Option<Difference>, NoMemory>
     ensures { IfOk result (λ difference. IsOrdered note.now.reach → Tells (L.rows latest.now) note.now.table note.now.reach difference) }
 {
@@ -85,14 +85,14 @@ fn difference_at<L: Latest>(latest: &L, note: &Noted) -> Result<Option<Differenc
     }
 }
 
-// The writer by the look, none where there is no look.
+/// The writer by the look, none where there is no look.
 fn writer_in(look: &Option<Look>) -> Option<Tx>
     ensures { result ≡ found_in look.now }
 {
     look.as_ref().and_then(writer_of)
 }
 
-// The key, where it has another writer now than by its look.
+/// The key, where it has another writer now than by its look.
 fn difference_at_key<L: Latest>(
     latest: &L,
     table: Table,

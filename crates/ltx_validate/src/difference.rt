@@ -8,7 +8,7 @@ use ltx_model::memory::NoMemory;
 use ltx_model::numbers::Tx;
 use ltx_model::writes::Look;
 
-// A key, and its writers then and now.
+/// A key, and its writers then and now.
 #[derive(Debug, Drop)]
 pub(crate) struct Difference {
     pub(crate) key: Key,
@@ -17,7 +17,7 @@ pub(crate) struct Difference {
 }
 
 impl Difference {
-    // The difference at a key, with a copy of it.
+    /// The difference at a key, with a copy of it.
     pub(crate) fn at(
         key: &Key,
         found: Option<Tx>,
@@ -33,7 +33,7 @@ impl Difference {
     }
 }
 
-// The writer of a key's row by a look of the key.
+/// The writer of a key's row by a look of the key.
 pub(crate) fn writer_of(look: &Look) -> Option<Tx>
     ensures { result ≡ found_by look.now }
 {

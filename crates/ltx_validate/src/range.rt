@@ -17,7 +17,7 @@ use ltx_model::numbers::{Table, Tx};
 use ltx_model::writes::Look;
 use std::cmp::Ordering;
 
-// A key with its writers then and now, and the looks above it.
+/// A key with its writers then and now, and the looks above it.
 #[derive(Clone, Copy)]
 struct Turn<'k> {
     key: &'k Key,
@@ -26,8 +26,8 @@ struct Turn<'k> {
     left: &'k [Look],
 }
 
-// The least key of the range, none of the own ones, whose writer by the looks and writer now differ. The looks and the rows are
-// walked side by side, and each row is searched for once.
+/// The least key of the range, none of the own ones, whose writer by the looks and writer now differ. The looks and the rows are
+/// walked side by side, and each row is searched for once.
 pub(crate) fn difference_in_range<'x, L: Latest>(
     latest: &'x L,
     table: Table,
@@ -52,7 +52,7 @@ pub(crate) fn difference_in_range<'x, L: Latest>(
     Ok(None)
 }
 
-// The least key that the looks and the row are of.
+/// The least key that the looks and the row are of.
 fn next_turn<'k>(looks: &'k [Look], row: &Option<(&'k Key, Tx)>) -> Option<Turn<'k>>
     ensures some { IfSome result (λ turn. turn_of looks.now (option_map (λ r. (r.0.now, r.1)) row.now) ≡ Some (record { key = turn.key.now; found = turn.found; current = turn.current; left = turn.left.now })) }
     ensures none { IfNone result (turn_of looks.now (option_map (λ r. (r.0.now, r.1)) row.now) ≡ None) }
@@ -98,7 +98,7 @@ fn next_turn<'k>(looks: &'k [Look], row: &Option<(&'k Key, Tx)>) -> Option<Turn<
     })
 }
 
-// The next row of the table from a bound on, below the upper end of the range.
+/// The next row of the table from a bound on, below the upper end of the range.
 fn next_row<'l, L: Latest>(
     latest: &'l L,
     table: Table,
@@ -109,26 +109,26 @@ fn next_row<'l, L: Latest>(
     ensures { NextRow (L.rows latest.now) table high.now from.now strict (option_map (λ r. (r.0.now, r.1)) result) }
 {
     match latest.after(table, from, strict) {
-        Some((key, writer)) if is_below_end(key, high) => Some((key, writer)),
+        Some((key, writer)) if is_below(key, high) => Some((key, writer)),
         _ => None,
     }
 }
 
-// The key is below the upper end of a range, which is no bound where it is empty.
-fn is_below_end(key: &Key, high: &Bound) -> bool
+/// The key is below the upper end of a range, which is no bound where it is empty.
+fn is_below(key: &Key, high: &Bound) -> bool
     ensures { result ≡ is_below_end high.now key.now }
 {
     high.bytes().is_empty() || compare_bytes(key.bytes(), high.bytes()).is_lt()
 }
 
-// The writers then and now differ, and the key is none of the own ones, which are asked last.
+/// The writers then and now differ, and the key is none of the own ones, which are asked last.
 fn has_changed(own: &[Key], key: &Key, found: Option<Tx>, current: Option<Tx>) -> bool
     ensures { IsStrictlySortedBy key_cmp own.now → result ≡ (not (same_writer found current) && not (is_one_of own.now key.now)) }
 {
     found != current && !is_own(own, key)
 }
 
-// The key is one of these, which rise.
+/// The key is one of these, which rise.
 fn is_own(own: &[Key], key: &Key) -> bool
     ensures { IsStrictlySortedBy key_cmp own.now → result ≡ is_one_of own.now key.now }
 {

@@ -48,6 +48,27 @@ loop-row-preserved c =
           };
     }
 
+pub loop-row-preserved-else-not-begins_with : goal.loop-row-preserved-else-not-begins_with
+loop-row-preserved-else-not-begins_with c =
+    let own = c.args.own.now in
+    let here = take_rest own c.loop-row.at in
+    let there = take_rest own (c.loop-row.at + c.in_ok-at.field-0) in
+    let size = length-drop c.loop-row.at own in
+    let left : c.loop-row.row-iterator.rest.items ≡ c.in-Some.row ∷ c.next.new.self.rest.items = search rules in
+    let begins : begins_with (take (length own - (c.loop-row.at + c.in_ok-at.field-0)) (drop (c.loop-row.at + c.in_ok-at.field-0) own)) c.in-Some.row.key ≡ true = search rules in
+    let put = c.in_ok-at.ensures in
+    record {
+      within = omega (arith, put.within, ap length here, size, c.loop-row.invariant.within);
+      whole = λ table own_rises rows_rise.
+          let before = c.loop-row.invariant.whole table own_rises rows_rise in
+          let rising = subst (IsRising (cell_in table)) left before.rising in
+          record {
+            rising = rising_rows_tail table c.in-Some.row c.next.new.self.rest.items rising;
+            same = row_hidden table c.loop-row.at c.in_ok-at.field-0 own _ _ c.in-Some.row c.next.new.self.rest.items c.loop-row.merged.items c.put_below.new.merged.items here there own_rises rising put.below put.rows begins
+                ∙ ap (λ rs. c.loop-row.merged.items ++ rows_under table rs (drop c.loop-row.at own)) (sym left) ∙ before.same;
+          };
+    }
+
 pub returns : goal.returns
 returns c = λ table own_rises rows_rise.
     let own = c.args.own.now in

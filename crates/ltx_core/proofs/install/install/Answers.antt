@@ -13,4 +13,4 @@ pub loop-write-preserved : goal.loop-write-preserved
 loop-write-preserved c =
     let left : c.loop-write.write-iterator.rest.items ≡ c.in-Some.write ∷ c.next.new.self.rest.items = search rules in
     one_installed _ c.loop-write.store c.install.new.self c.args.writer c.args.mark _ c.in-Some.write c.next.new.self.rest.items
-    (subst (IsLeft c.args.store.now c.loop-write.store c.args.writer c.args.mark c.args.writes.items) left c.loop-write.invariant) c.install.ensures.installed c.install.ensures.latest
+    (subst (IsLeft c.args.store.now c.loop-write.store c.args.writer c.args.mark c.args.writes.items) left c.loop-write.invariant) c.install.ensures.installed c.install.ensures.latest c.install.ensures.before

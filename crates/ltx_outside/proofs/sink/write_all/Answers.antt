@@ -1,4 +1,4 @@
-use Rattle.std.proofs.Common.{ap, length, ◌≡◌, List, ℕ, take, drop, subst, sym, le_trans, length-drop, arith, rules}
+use Rattle.std.proofs.Common.{ap, length, ◌≡◌, List, ℕ, take, drop, subst, sym, ◌∙◌, length-drop, arith, rules}
 use Rattle.std.proofs.Math.Seq.{take-add}
 use Rattle.std.proofs.KnownBytes.{Appends-trans}
 use Rattle.std.specs.Io.KnownBytes.{Appends}
@@ -15,5 +15,5 @@ loop-done-preserved g c =
       written = subst (λ (bs : List ℕ). Appends (g.K.Sink.written c.args.sink.now) (g.K.Sink.written c.write.new.self) bs) (sym (take-add done c.in_ok-count.count text))
           (Appends-trans _ _ _ (take done text) (take c.in_ok-count.count (drop done text)) c.loop-done.invariant.written (rw rest at c.in_ok-count.ensures.taken));
       untouched = λ none. absurd (omega (arith, some.0, none));
-      counted = le_trans c.loop-done.invariant.counted c.in_ok-count.ensures.counted;
+      counted = c.in_ok-count.ensures.calm ∙ c.loop-done.invariant.counted;
     }

@@ -15,6 +15,11 @@ invariant_of-self-in-Ok-2 c =
     let found = rw c.deref.ensures.value at c.in-Ok.ensures.found in
     subst (IsRising cell_of_write) (put_found c.args.write c.self.inside.writes.items c.in-Ok.place found) (rising_put cell_of_write c.args.write c.self.inside.writes.items c.self.invariant)
 
+pub invariant_of-self-in-Ok-3 : goal.invariant_of-self-in-Ok-3
+invariant_of-self-in-Ok-3 c =
+    let found = rw c.deref.ensures.value at c.in-Ok.ensures.found in
+    subst (IsRising cell_of_write) (put_found c.args.write c.self.inside.writes.items c.in-Ok.place found) (rising_put cell_of_write c.args.write c.self.inside.writes.items c.self.invariant)
+
 pub invariant_of-self-in-Err : goal.invariant_of-self-in-Err
 invariant_of-self-in-Err c =
     let gap = rw c.deref.ensures.value at c.in-Err.ensures.absent in

@@ -7,9 +7,9 @@ use Rattle.ltx_index.proofs.leaf.Leaf.get_mut.Goals as goal
 
 pub returns-in-Ok : goal.returns-in-Ok
 returns-in-Ok g c =
-    let keys = c.self.inside.keys.items in
+    let keys = c.self.inside.keys in
     let values = c.self.inside.values.items in
-    let found = rw c.deref.ensures.value at c.in-Ok.ensures.found in
+    let found = c.in-Ok.ensures.found in
     rw (← c.self.view_is) (
       λ t. read_of (ghost_name_of c.get_mut.result) (λ (w : g.row.V.Denot). sym (with_value-found c.args.key.now keys values c.in-Ok.at w found) t) (zip keys values),
       record {
@@ -21,9 +21,9 @@ returns-in-Ok g c =
 
 pub returns-in-Err : goal.returns-in-Err
 returns-in-Err g c =
-    let keys = c.self.inside.keys.items in
+    let keys = c.self.inside.keys in
     let values = c.self.inside.values.items in
-    let gap = rw c.deref.ensures.value at c.in-Err.ensures.absent in
+    let gap = c.in-Err.ensures.absent in
     rw (← c.self.view_is) (
       refl,
       record {

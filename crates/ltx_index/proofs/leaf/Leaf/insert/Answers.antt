@@ -4,16 +4,16 @@ use Rattle.ltx_index.proofs.leaf.Leaf.insert.Goals as goal
 
 pub invariant_of-self-in-Err : goal.invariant_of-self-in-Err
 invariant_of-self-in-Err g c =
-    let gap = rw c.deref.ensures.value at c.in-Err.ensures.absent in
+    let gap = c.in-Err.ensures.absent in
     let put = c.in_ok-put_at-in-Err.ensures in
-    let room : length c.self.inside.keys.items < 128 = omega (arith, c.if-len-ge-MOST.false, c.len.ensures) in
+    let room : length c.self.inside.keys < 128 = omega (arith, c.if-len-ge-MOST.false, c.len.ensures) in
     rw (put.key_put, put.value_put) (run_insert _ _ c.self.invariant c.args.key c.in-Err.at c.args.value room gap)
 
 pub returns-in-Ok : goal.returns-in-Ok
 returns-in-Ok g c =
-    let keys = c.self.inside.keys.items in
+    let keys = c.self.inside.keys in
     let values = c.self.inside.values.items in
-    let found = rw c.deref.ensures.value at c.in-Ok.ensures.found in
+    let found = c.in-Ok.ensures.found in
     let run = run_set keys values c.self.invariant c.in-Ok.at c.args.value in
     rw (← c.self.view_is, c.replace.ensures.after) record {
       old = sym (value_at-read keys values c.self.invariant c.args.key c.in-Ok.at c.replace.result found (rw c.replace.ensures.value c.index_mut.ensures.value));
@@ -31,11 +31,11 @@ returns-in_err-put_at-in-Err-clause-in_order g c =
 
 pub returns-in_ok-put_at-in-Err : goal.returns-in_ok-put_at-in-Err
 returns-in_ok-put_at-in-Err g c =
-    let keys = c.self.inside.keys.items in
+    let keys = c.self.inside.keys in
     let values = c.self.inside.values.items in
-    let gap = rw c.deref.ensures.value at c.in-Err.ensures.absent in
+    let gap = c.in-Err.ensures.absent in
     let put = c.in_ok-put_at-in-Err.ensures in
-    let room : length c.self.inside.keys.items < 128 = omega (arith, c.if-len-ge-MOST.false, c.len.ensures) in
+    let room : length c.self.inside.keys < 128 = omega (arith, c.if-len-ge-MOST.false, c.len.ensures) in
     let run = run_insert keys values c.self.invariant c.args.key c.in-Err.at c.args.value room gap in
     rw (← c.self.view_is, put.key_put, put.value_put) record {
       old = sym (value_at-gap c.args.key keys values c.in-Err.at gap);
@@ -48,13 +48,13 @@ returns-in_ok-put_at-in-Err g c =
 
 pub returns-in_err-put_at-in-Err-clause-overwrites : goal.returns-in_err-put_at-in-Err-clause-overwrites
 returns-in_err-put_at-in-Err-clause-overwrites g c stands =
-    let gap = rw c.deref.ensures.value at c.in-Err.ensures.absent in
+    let gap = c.in-Err.ensures.absent in
     absurd (nothing_in_gap c.args.key _ _ c.in-Err.at gap (rw (← c.self.view_is) at stands))
 
 -- the run is full
 pub returns-then-len-ge-MOST-clause-overwrites : goal.returns-then-len-ge-MOST-clause-overwrites
 returns-then-len-ge-MOST-clause-overwrites g c stands =
-    let gap = rw c.deref.ensures.value at c.in-Err.ensures.absent in
+    let gap = c.in-Err.ensures.absent in
     absurd (nothing_in_gap c.args.key _ _ c.in-Err.at gap (rw (← c.self.view_is) at stands))
 
 pub returns-then-len-ge-MOST-clause-in_order : goal.returns-then-len-ge-MOST-clause-in_order

@@ -4,9 +4,9 @@ use Rattle.ltx_index.proofs.leaf.Leaf.parts_from.Goals as goal
 
 pub returns : goal.returns
 returns g c =
-    let keys = c.self.inside.keys.items in
+    let keys = c.self.inside.keys in
     let values = c.self.inside.values.items in
-    let starts = rw c.deref.ensures.value at c.start-at.ensures in
+    let starts = c.start-at.ensures in
     let rest_keys : c.split_at.result.1.now ≡ drop c.start-at.result keys = search rules in
     let rest_values : c.split_at-2.result.1.now ≡ drop c.start-at.result values = search rules in
     rw (← c.self.view_is, rest_keys, rest_values) record {

@@ -37,7 +37,7 @@ returns-in-Ok-eq0-clause-more g c =
     let v = c.self.view_is in
     let kept : held c.make_room.new.self ≡ take 4097 c.args.self.now.held = c.make_room.ensures.held ∙ ap (λ (s : LinesState). take 4097 s.held) v in
     let came = c.in-Ok-eq0.ensures.taken in
-    (c.in-Ok-eq0.ensures.end c.in-Ok-eq0.field-0-test, feeds-kept c.args.self.now.held _ _ came.0 c.requires.unended kept came.2 (came.1 ∙ c.in-Ok-eq0.field-0-test))
+    (refl, c.in-Ok-eq0.ensures.end c.in-Ok-eq0.field-0-test, feeds-kept c.args.self.now.held _ _ came.0 c.requires.unended kept came.2 (came.1 ∙ c.in-Ok-eq0.field-0-test))
 
 pub returns-in-Ok-clause-cuts : goal.returns-in-Ok-clause-cuts
 returns-in-Ok-clause-cuts g c =

@@ -13,4 +13,4 @@ pub returns-in-None-clause-cuts : goal.returns-in-None-clause-cuts
 returns-in-None-clause-cuts g c =
     let end = rw c.in-None.is at c.in_ok-at.ensures.found in
     Cuts-then _ _ _ _ _ _ [] _ c.fill.ensures.cuts
-    (gave_last c.give_last.result _ c.give_last.new.self _ end.1 end.0 c.give_last.ensures.piece c.give_last.ensures.state c.give_last.ensures.err)
+    (gave_last c.give_last.result _ c.give_last.new.self _ end.2 end.1 c.give_last.ensures.piece c.give_last.ensures.state c.give_last.ensures.err)

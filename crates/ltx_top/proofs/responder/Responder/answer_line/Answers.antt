@@ -1,13 +1,13 @@
-use Rattle.std.proofs.Common.{[], ◌∷◌}
+use Rattle.std.proofs.Common.{[], ◌∷◌, refl}
 use Rattle.ltx_top.proofs.Results.{unserved, served_on, served_stops, served_rose}
 use Rattle.ltx_top.proofs.responder.Responder.answer_line.Goals as goal
 
 pub returns-in-Err-clause-stops : goal.returns-in-Err-clause-stops
-returns-in-Err-clause-stops g c = λ start left reader.
-    unserved left (g.K.Sink.written c.args.sink.now) reader c.args.self.now.core c.args.self.now.text.items c.serve.new.text.items c.args.self.now.malformed (c.args.line.now ∷ []) c.in-Err.ensures.kept start
+returns-in-Err-clause-stops g c = λ left reads reader.
+    unserved left reads (g.K.Sink.written c.args.sink.now) reader c.args.self.now.core c.args.self.now.text.items c.serve.new.text.items c.args.self.now.malformed (c.args.line.now ∷ []) c.in-Err.ensures.kept
 
 pub returns-in-Err-clause-rose : goal.returns-in-Err-clause-rose
-returns-in-Err-clause-rose g c = λ s s'. tt
+returns-in-Err-clause-rose g c = λ s. refl
 
 pub returns-in-Ok-clause-on : goal.returns-in-Ok-clause-on
 returns-in-Ok-clause-on g c =

@@ -1,8 +1,0 @@
-use Rattle.std.proofs.Common.{subst}
-use Rattle.ltx_core.specs.Views.{is_session}
-use Rattle.ltx_core.specs.Places.{IsFirst}
-use Rattle.ltx_core.proofs.Outcomes.{operate_done, if_ok}
-use Rattle.ltx_core.proofs.step.Core.operate.Goals as goal
-
-pub returns-in-Some-clause-ok : goal.returns-in-Some-clause-ok
-returns-in-Some-clause-ok c = if_ok _ _ (λ reply answers. operate_done _ _ c.args.session c.self.view_is c.in-Some.place (subst (λ l. IsFirst (is_session c.args.session) l c.in-Some.place) c.deref.ensures.value c.in-Some.ensures.some) c.args.op.now reply _ answers) c.operate_at.result c.operate_at.ensures.ok
