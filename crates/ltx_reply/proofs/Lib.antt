@@ -3,5 +3,4 @@ pub mod Hints
 pub mod PartLemmas
 pub mod Rising
 pub mod RowsRead
-pub mod Spaces
 pub mod WorkedRecoveries

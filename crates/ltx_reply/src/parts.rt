@@ -10,7 +10,7 @@ use ltx_model::bytes::{Key, Value};
 use ltx_model::commands::Bad;
 use ltx_model::numbers::{Table, Tx};
 use ltx_text::decimals::number_in;
-use ltx_text::words::decode_word;
+use ltx_text::words::{decode_word, plain_bytes};
 use std::alloc::Global;
 
 /// The transaction with this number, if it is one.
@@ -60,6 +60,9 @@ pub(crate) fn table_of(word: &[u8]) -> Result<Table, Unread>
 pub(crate) fn key_of(alloc: Global, word: &[u8]) -> Result<Key, Unread>
     ensures { Gives (λ key. key) result (key_at word.now) }
 {
+    if let Some(bytes) = plain_bytes(word) {
+        return Key::from_slice(alloc, bytes)?.ok_or(Unread::NoReply);
+    }
     let Some(bytes) = decode_word(alloc, word)? else {
         return Err(Unread::NoReply);
     };
@@ -71,6 +74,9 @@ pub(crate) fn key_of(alloc: Global, word: &[u8]) -> Result<Key, Unread>
 pub(crate) fn value_of(alloc: Global, word: &[u8]) -> Result<Value, Unread>
     ensures { Gives (λ value. value) result (value_at word.now) }
 {
+    if let Some(bytes) = plain_bytes(word) {
+        return Value::from_slice(alloc, bytes)?.ok_or(Unread::NoReply);
+    }
     let Some(bytes) = decode_word(alloc, word)? else {
         return Err(Unread::NoReply);
     };

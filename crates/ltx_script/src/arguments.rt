@@ -15,7 +15,7 @@ use ltx_model::numbers::{Session, Table};
 use ltx_model::tables::TableSet;
 use ltx_text::cuts::cut;
 use ltx_text::decimals::number_in;
-use ltx_text::words::decode_word;
+use ltx_text::words::{decode_word, plain_bytes};
 use std::alloc::Global;
 
 /// The session with this number, from 1 to 1,024.
@@ -51,6 +51,9 @@ pub(crate) fn table_of(word: &[u8]) -> Result<Table, Refusal>
 pub(crate) fn key_of(alloc: Global, word: &[u8]) -> Result<Key, Refusal>
     ensures { Gives (λ key. key) result (key_at word.now) }
 {
+    if let Some(bytes) = plain_bytes(word) {
+        return Key::from_slice(alloc, bytes)?.ok_or(Refusal::Cause(Bad::Key));
+    }
     let Some(bytes) = decode_word(alloc, word)? else {
         return Err(Refusal::Cause(Bad::Key));
     };
@@ -62,6 +65,9 @@ pub(crate) fn key_of(alloc: Global, word: &[u8]) -> Result<Key, Refusal>
 pub(crate) fn bound_of(alloc: Global, word: &[u8]) -> Result<Bound, Refusal>
     ensures { Gives (λ bound. bound) result (bound_at word.now) }
 {
+    if let Some(bytes) = plain_bytes(word) {
+        return Bound::from_slice(alloc, bytes)?.ok_or(Refusal::Cause(Bad::Key));
+    }
     let Some(bytes) = decode_word(alloc, word)? else {
         return Err(Refusal::Cause(Bad::Key));
     };
@@ -73,6 +79,9 @@ pub(crate) fn bound_of(alloc: Global, word: &[u8]) -> Result<Bound, Refusal>
 pub(crate) fn value_of(alloc: Global, word: &[u8]) -> Result<Value, Refusal>
     ensures { Gives (λ value. value) result (value_at word.now) }
 {
+    if let Some(bytes) = plain_bytes(word) {
+        return Value::from_slice(alloc, bytes)?.ok_or(Refusal::Cause(Bad::Value));
+    }
     let Some(bytes) = decode_word(alloc, word)? else {
         return Err(Refusal::Cause(Bad::Value));
     };

@@ -1,5 +1,5 @@
 //! What a session asks, from the words behind its number: one function a verb with arguments. The command is written
-//! in place: it is 72 bytes, which each `Result` on its way would copy. After a refusal it may be any command.
+//! in place: it is 88 bytes, which each `Result` on its way would copy. After a refusal it may be any command.
 
 ghost use Rattle.std.specs.Prelude.{Option, option_copied};
 ghost use Rattle.ltx_script.specs.Lines.{alone, long_at, get_at, scan_at, put_at, del_at, verb_at, asked_at};

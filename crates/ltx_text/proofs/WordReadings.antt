@@ -1,5 +1,5 @@
 -- A word gives the one byte string that it spells.
-use Rattle.std.proofs.Common.{◌≡◌, ◌≢◌, ℕ, suc, ◌+◌, ◌*◌, ◌/◌, ◌%◌, ◌<◌, Bool, true, false, ◌==◌, ◌&&◌, List, [], ◌∷◌, ◌++◌, get_or, Option, Some, None, refl, sym, ap, subst, ◌∙◌, arith, inl, inr}
+use Rattle.std.proofs.Common.{◌≡◌, ◌≢◌, ℕ, suc, ◌+◌, ◌*◌, ◌/◌, ◌%◌, ◌<◌, Bool, true, false, ◌==◌, ◌&&◌, List, [], ◌∷◌, ◌++◌, length, get_or, Option, Some, None, refl, sym, ap, subst, ◌∙◌, arith, inl, inr}
 use Rattle.std.specs.Prelude.{bytes_eq, nat_lt, codes}
 use Rattle.std.specs.List.{list_all, AllByRecursion}
 use Rattle.std.proofs.lemmas.Bool.{cases_Bool}
@@ -8,7 +8,7 @@ use Rattle.std.specs.Cmp.Lexicographic.{same_text, other_text}
 use Rattle.ltx_text.specs.Readings.{hex_value, unescaped, if_word_of, bytes_of}
 use Rattle.ltx_text.specs.Words.{byte_spelling, hex_digit, is_plain, spellings, word_of}
 use Rattle.ltx_model.specs.Limits.{AreBytes}
-use Rattle.ltx_text.proofs.WordLemmas.{plain_spelling, escaped_spelling, word_spelling_injective}
+use Rattle.ltx_text.proofs.WordLemmas.{plain_spelling, escaped_spelling, plain_word, word_spelling_injective}
 
 pub text_is : (xs ys : List ℕ) → bytes_eq xs ys ≡ true → xs ≡ ys
 text_is xs ys e = same_text xs ys (sym e)
@@ -84,6 +84,10 @@ bytes_again word (b ∷ bytes) low is =
     let more : bytes_eq word (codes "%") ≡ false = other_bytes word (codes "%") (λ e. let one : [] ≡ b ∷ bytes = word_spelling_injective [] (b ∷ bytes) (sym e ∙ is) in absurd cc) in
     let back : unescaped word ≡ b ∷ bytes = ap unescaped is ∙ unescaped_spellings (b ∷ bytes) all in
     rw (more, back, bytes_test (b ∷ bytes) all, same_bytes (word_of (b ∷ bytes)) word (sym is)) refl
+
+-- a word whose bytes stand for themselves is read as its own bytes
+pub plain_again : (word : List ℕ) → 0 < length word → list_all is_plain word ≡ true → AreBytes word → bytes_of word ≡ Some word
+plain_again word some plain low = bytes_again word word low (sym (plain_word word some plain))
 
 if_word_is : (bytes word read : List ℕ) → if_word_of bytes word ≡ Some read → IsWordOf word read
 if_word_is bytes word read e = elim (cases_Bool (list_all (λ b. nat_lt b 256) bytes && bytes_eq (word_of bytes) word)) [

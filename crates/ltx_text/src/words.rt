@@ -1,7 +1,7 @@
 //! Words: each byte string has one spelling in visible bytes, so that words can be joined by spaces.
 //! A visible byte other than `%` stands for itself, every other byte is `%HH` in upper case, and the
 //! empty string is `%`.
-ghost use Rattle.std.specs.Prelude.{◌≡◌, ◌≢◌, ◌++◌, ◌<◌, ◌/◌, ◌%◌, ℕ, List, length, take, OnOk, OnErr, IfOk, IfSome, IfNone, IsFalse, IsSomeAnd, option_map};
+ghost use Rattle.std.specs.Prelude.{◌≡◌, ◌≢◌, ◌++◌, ◌<◌, ◌/◌, ◌%◌, ◌⊎◌, ℕ, List, Some, length, take, OnOk, OnErr, IfOk, IfSome, IfNone, IsFalse, IsSomeAnd, option_map};
 ghost use Rattle.std.specs.List.{list_all};
 ghost use Rattle.ltx_text.specs.Readings.{bytes_of};
 ghost use Rattle.ltx_text.specs.Words.{AreVisible, byte_spelling, hex_digit, is_plain, spellings, word_of};
@@ -145,6 +145,20 @@ pub fn decode_word(alloc: Global, word: &[u8]) -> Result<Option<Vec<u8>>, NoMemo
     };
     are_bytes(&bytes);
     Ok(Some(bytes))
+}
+
+/// The word itself, where each byte of it stands for itself: it is the byte string whose word it is. None where
+/// the word is empty or a byte of it does not stand for itself: such a word is for `decode_word`.
+#[tactic(auto, using(crate::proofs::WordReadings::plain_again))]
+pub fn plain_bytes(word: &[u8]) -> Option<&[u8]>
+    ensures found { IfSome result (λ bytes. (bytes.now ≡ word.now) × (bytes_of word.now ≡ Some bytes.now)) }
+    ensures none { IfNone result ((length word.now ≡ 0) ⊎ IsFalse (list_all is_plain word.now)) }
+{
+    if word.is_empty() || !are_plain(word) {
+        return None;
+    }
+    are_bytes(word);
+    Some(word)
 }
 
 /// What the type of bytes says, as a clause: each is below 256.
