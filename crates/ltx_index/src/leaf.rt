@@ -132,7 +132,11 @@ impl<V> Leaf<V> {
         ensures in_order { IsInOrder self.new }
     {
         match self.keys.place(&key) {
-            Ok(at) => Ok(Some(std::mem::replace(&mut self.values[at], value))),
+            Ok(at) => {
+                // The key that stands there stays.
+                drop(key);
+                Ok(Some(std::mem::replace(&mut self.values[at], value)))
+            }
             Err(at) => {
                 if self.keys.len() >= MOST {
                     return Err((key, value));
