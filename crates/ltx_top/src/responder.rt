@@ -14,8 +14,8 @@ ghost use Rattle.ltx_top.specs.Hands.{Responds, RespondsNot};
 
 use crate::ending::put_ending;
 use crate::output::relieve;
-use crate::status::Stop;
 use crate::serving::serve;
+use crate::status::Stop;
 use ltx_core::Core;
 use ltx_model::base::Recovered;
 use ltx_model::commands::Line;
