@@ -7,6 +7,12 @@ mod examples;
 #[cfg(test)]
 mod tests {
     use crate::examples::{CONFLICT, ORDERS, PHANTOM};
+    use ltx_core::Core;
+    use ltx_model::base::Recovered;
+    use ltx_model::commands::{Command, Verb};
+    use ltx_model::numbers::{Session, Tx};
+    use ltx_model::replies::Reply;
+    use ltx_model::rows::StoredList;
     use ltx_outside::{Disk, Failed, MemDisk, MemSink, MemSource, Sink, Source};
     use ltx_text::decimals::put_decimal;
     use ltx_top::run;
@@ -464,6 +470,17 @@ mod tests {
         (10_001, 10_002, &[("1 short", "begun #")]),
     ];
 
+    /// What a core over no rows answers to the first begin of a short, where this is the last number before.
+    fn begun_after(alloc: Global, last: u64) -> Result<Reply, Fail> {
+        let rows = StoredList::from_vec(Vec::new(alloc));
+        let Ok(base) = Recovered::new(rows, 0, last) else {
+            return Err(Fail::from(last));
+        };
+        let mut core = Core::new(alloc, base)?;
+        let session = Session::new(1).ok_or(1u16)?;
+        Ok(core.step(&Command::Ask(session, Verb::Short))?)
+    }
+
     /// Whether a run of this script, of which a read gives so much, ends at this status and prints this text.
     fn gives(
         alloc: Global,
@@ -480,6 +497,12 @@ mod tests {
     #[test]
     fn runs_at_the_limits(rt: HostRuntime) -> Result<(), Fail> {
         let alloc = rt.alloc();
+        // The last number is given, and no further one.
+        let Reply::Begun { tx } = begun_after(alloc, Tx::LAST - 1)? else {
+            return Err(Fail::from(Tx::LAST));
+        };
+        assert_eq!(rt; tx.number(), 9_223_372_036_854_775_807);
+        assert!(rt; matches!(begun_after(alloc, Tx::LAST)?, Reply::LimitTx));
         for (parts, order) in LIMITS {
             let mut script = Vec::new(alloc);
             let mut text = Vec::new(alloc);
