@@ -7,3 +7,5 @@ pub mod Unique
 pub mod OneVerdict
 pub mod Seats
 pub mod Placed
+pub mod Told
+pub mod Sorts

@@ -8,7 +8,7 @@ use Rattle.std.proofs.lemmas.List.Elements.{recursion_from_All}
 use Rattle.memchr.specs.Find.{IsFirstByte, is_byte}
 use Rattle.ltx_text.specs.Words.{is_visible}
 use Rattle.ltx_text.specs.Decimals.{decimal_of}
-use Rattle.ltx_text.proofs.DecimalLemmas.{decimal_is_visible}
+use Rattle.ltx_text.proofs.DecimalLemmas.{decimal_is_visible, decimal_spelling_injective}
 use Rattle.ltx_reply.specs.Texts.{IsTx}
 use Rattle.ltx_check.specs.Texts.{spaced_number, numbers_text, AreTxs}
 use Rattle.ltx_check.specs.Words.{HasNoSpace, EndsWord, EndsAt, NoNumber}
@@ -135,3 +135,14 @@ no_numbers whole rest read kept some none numbers txs is =
 pub all_read : (whole rest : List ℕ) (numbers : List ℕ) → Numbering whole rest numbers → length rest ≡ 0 → AreTxs numbers × (numbers_text numbers ≡ whole)
 all_read whole [] numbers kept none = (kept.txs, sym (append-nil (numbers_text numbers)) ∙ kept.told)
 all_read whole (b ∷ rest) numbers kept none = absurd (omega (arith, none))
+
+-- numbers have a text of their own
+pub numbers_one : (xs ys : List ℕ) → AreTxs xs → AreTxs ys → numbers_text xs ≡ numbers_text ys → xs ≡ ys
+numbers_one [] [] txs txs' is = refl
+numbers_one [] (y ∷ ys) txs txs' is = cc
+numbers_one (x ∷ xs) [] txs txs' is = cc
+numbers_one (x ∷ xs) (y ∷ ys) txs txs' is =
+    let both = one_number x y (numbers_text xs) (numbers_text ys) txs.0 txs'.0 (numbers_end xs) (numbers_end ys) is in
+    let first : x ≡ y = decimal_spelling_injective x y (omega (arith, txs.0.1)) (omega (arith, txs'.0.1)) both.0 in
+    let rest : xs ≡ ys = numbers_one xs ys txs.1 txs'.1 both.1 in
+    λ i. first i ∷ rest i

@@ -10,9 +10,11 @@ use Rattle.ltx_script.specs.Commands.{command_text}
 use Rattle.ltx_reply.specs.Texts.{reply_text}
 use Rattle.ltx_reply.proofs.Hints.{replies_differ}
 use Rattle.ltx_check.specs.Cuts.{lines_of, ended}
-use Rattle.ltx_check.specs.Texts.{entry_line, IsAnswered, IsEntry, AreEntries, order_line}
+use Rattle.ltx_check.specs.Texts.{entry_line, IsAnswered, IsEntry, AreEntries, order_line, numbers_text}
 use Rattle.ltx_check.specs.Lines.{entry_text, IsOrderText, IsDurableText, Says, Breaks, no_order, other_order, no_durable, other_durable, too_much, IsTextFault}
 use Rattle.ltx_check.specs.Readings.{BeginsNoEntry}
+use Rattle.ltx_check.proofs.Feeds.{same_line}
+use Rattle.ltx_check.proofs.Numbers.{numbers_one}
 use Rattle.ltx_check.proofs.Commands.{same_command, same_behind, no_question, no_order_name, first_of}
 
 -- ---- entries have lines of their own
@@ -137,6 +139,12 @@ last_none order more is = order_is_none (ended (order_line order)) more is
 pub says_one : (text : List ℕ) (h g : List Entry) (order other : List ℕ) (durable epoch : ℕ) → Says text h order durable → Says text g other epoch → h ≡ g
 says_one text h g order other durable epoch a b =
     (same_front h g _ _ a.entries b.entries (last_none order _ (order, a.numbers, refl)) (last_none other _ (other, b.numbers, refl)) (sym a.lines ∙ b.lines)).entries
+
+pub says_order : (text : List ℕ) (h g : List Entry) (order other : List ℕ) (durable epoch : ℕ) → Says text h order durable → Says text g other epoch → order ≡ other
+says_order text h g order other durable epoch a b =
+    let same = same_front h g _ _ a.entries b.entries (last_none order _ (order, a.numbers, refl)) (last_none other _ (other, b.numbers, refl)) (sym a.lines ∙ b.lines) in
+    let lines : order_line order ≡ order_line other = same_line (order_line order) (order_line other) _ _ same.behind in
+    numbers_one order other a.numbers b.numbers (append_cancel_left (codes "order") (numbers_text order) (numbers_text other) lines)
 
 pub says_no_fault : (text : List ℕ) (h : List Entry) (order : List ℕ) (durable n : ℕ) → Says text h order durable → IsTextFault text n → ⊥
 says_no_fault text h order durable n a b =

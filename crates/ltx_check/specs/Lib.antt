@@ -4,5 +4,6 @@ pub mod Words
 pub mod Lines
 pub mod Readings
 pub mod Opens
+pub mod Orders
 pub mod Found
 pub mod Verdicts

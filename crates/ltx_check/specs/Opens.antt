@@ -1,5 +1,5 @@
 -- Which replies may stand where: what each command may be answered, and what is open in each session.
-use Rattle.std.specs.Prelude.{◌≡◌, ℕ, ◌+◌, Bool, true, false, not, ◌||◌, ◌==◌, nat_le, max, List, [], ◌∷◌, ◌++◌, length, Option, Some, None, is_some, is_none}
+use Rattle.std.specs.Prelude.{◌≡◌, ℕ, ◌+◌, Bool, true, false, not, ◌||◌, ◌==◌, nat_le, max, List, [], ◌∷◌, ◌++◌, length, Option, Some, None, is_some, is_none, option_map}
 use Rattle.std.specs.List.{find}
 use Rattle.ltx_model.specs.declared.commands.Op.{Op}
 use Rattle.ltx_model.specs.declared.commands.Op.TheVariants.{Get, Scan, Put, Del}
@@ -140,6 +140,21 @@ desk_after_in (Some session) reply desk = desk_after_reply session reply desk
 
 abbrev pub desk_after : Desk → Entry → Desk
 desk_after desk entry = desk_after_in (session_of entry.line) entry.reply desk
+
+-- the number of the transaction that a reply commits, where its session has this seat
+abbrev pub commits_number : Option Seat → Reply → Option ℕ
+commits_number seat (replies.Committed epoch) = option_map (λ s. s.number) seat
+commits_number seat (replies.CommittedBefore epoch target) = option_map (λ s. s.number) seat
+commits_number seat reply = None
+
+-- in the session of a line, if it has one
+abbrev pub commits_number_in : Option ℕ → Desk → Reply → Option ℕ
+commits_number_in None desk reply = None
+commits_number_in (Some session) desk reply = commits_number (seat_of desk.seats session) reply
+
+-- the number of the transaction that an entry commits
+abbrev pub committed_number : Desk → Entry → Option ℕ
+committed_number desk entry = commits_number_in (session_of entry.line) desk entry.reply
 
 -- ---- what may not stand
 

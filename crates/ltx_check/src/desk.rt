@@ -1,9 +1,9 @@
 //! What is open while a transcript is read: which transaction each session has, and the greatest number begun.
 
-ghost use Rattle.std.specs.Prelude.{◌≡◌, ◌≤◌, ◌<◌, ◌++◌, ◌∷◌, [], length, remove, IfOk, IfSome, IfNone, OnOk, Some, None};
+ghost use Rattle.std.specs.Prelude.{◌≡◌, ◌≤◌, ◌<◌, ◌++◌, ◌∷◌, [], length, remove, IfOk, IfSome, IfNone, OnOk, Some, None, option_map};
 ghost use Rattle.ltx_model.specs.declared.replies.Entry.{Entry};
 ghost use Rattle.ltx_model.specs.Histories.{session_of};
-ghost use Rattle.ltx_check.specs.Opens.{Desk, first_desk, seat_of, without_seat, begins, ends, desk_after, desk_after_reply, desk_after_in, is_misplaced, is_misplaced_in, is_open_fault, IsWellPlaced, IsOpenFault};
+ghost use Rattle.ltx_check.specs.Opens.{Desk, first_desk, seat_of, without_seat, begins, ends, desk_after, desk_after_reply, desk_after_in, is_misplaced, is_misplaced_in, is_open_fault, committed_number, IsWellPlaced, IsOpenFault};
 ghost use Rattle.ltx_check.specs.Found.{FindsOpenFault};
 
 use crate::asked::{asked_by, gives};
@@ -73,9 +73,19 @@ fn place_of(seats: &[Seat], session: Session) -> Option<usize>
     None
 }
 
+/// The number in a seat.
+fn number_in(seat: Option<Seat>) -> Option<Tx>
+    ensures { result ≡ option_map (λ s. s.number) seat }
+{
+    match seat {
+        None => None,
+        Some(seat) => Some(seat.number),
+    }
+}
+
 impl Seats {
     /// Nothing is open.
-    fn new(alloc: Global) -> Seats
+    pub fn new(alloc: Global) -> Seats
         ensures { result ≡ first_desk }
     {
         Seats {
@@ -129,12 +139,27 @@ impl Seats {
     }
 
     /// Takes an entry.
-    fn take(&mut self, entry: &Entry) -> Result<(), NoMemory>
+    pub fn take(&mut self, entry: &Entry) -> Result<(), NoMemory>
         ensures { OnOk result (self.new ≡ desk_after self.old entry.now) }
     {
         match session_of(&entry.line) {
             None => Ok(()),
             Some(session) => self.take_reply(session, &entry.reply),
+        }
+    }
+
+    /// The number of the transaction that an entry commits.
+    pub fn committed_by(&self, entry: &Entry) -> Option<Tx>
+        ensures { result ≡ committed_number self.now entry.now }
+    {
+        let Some(session) = session_of(&entry.line) else {
+            return None;
+        };
+        match &entry.reply {
+            Reply::Committed { .. } | Reply::CommittedBefore { .. } => {
+                number_in(seat_of(&self.seats, session))
+            }
+            _ => None,
         }
     }
 

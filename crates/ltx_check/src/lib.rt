@@ -5,6 +5,7 @@ mod asked;
 mod cuts;
 mod desk;
 mod entries;
+mod orders;
 mod reading;
 pub mod verdict;
 mod words;
@@ -68,6 +69,24 @@ mod tests {
             let no = Verdict::No {
                 line,
                 fault: Fault::Open,
+            };
+            assert_eq!(rt; check_form(alloc, text)?, no);
+        }
+        let orders: [(&[u8], u64); 3] = [
+            (b"order 1\ndurable 0\n", 1),
+            (
+                b"1 short => begun 1\n1 commit => committed 1\norder\ndurable 0\n",
+                3,
+            ),
+            (
+                b"1 short => begun 1\n1 commit => committed 1\norder 1 1\ndurable 0\n",
+                3,
+            ),
+        ];
+        for (text, line) in orders {
+            let no = Verdict::No {
+                line,
+                fault: Fault::Order,
             };
             assert_eq!(rt; check_form(alloc, text)?, no);
         }
