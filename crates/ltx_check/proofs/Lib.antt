@@ -1,0 +1,11 @@
+pub mod Feeds
+pub mod Commands
+pub mod EntryLemmas
+pub mod Numbers
+pub mod ReadingLemmas
+pub mod Unique
+pub mod OneVerdict
+pub mod Seats
+pub mod Placed
+pub mod Told
+pub mod Sorts

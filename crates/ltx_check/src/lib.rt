@@ -1,0 +1,95 @@
+//! Transcripts: what a run printed is read and checked, and nothing is taken on trust.
+#![tactic(auto)]
+
+mod asked;
+mod cuts;
+mod desk;
+mod entries;
+mod orders;
+mod reading;
+pub mod verdict;
+mod words;
+
+#[cfg(test)]
+mod tests {
+    use crate::verdict::{Fault, Verdict, check_form};
+    use std::test::Fail;
+
+    #[test]
+    fn forms_are_checked(rt: HostRuntime) -> Result<(), Fail> {
+        let alloc = rt.alloc();
+        let whole: [&[u8]; 4] = [
+            b"order\ndurable 0\n",
+            b"? => bad words\nepoch => bad session\norder\ndurable 7\n",
+            b"1 short => begun 1\n1 get 0 => => none\n1 commit => committed 1\norder 1\ndurable 0\n",
+            b"1 long W=0 R=2 => begun 3 at 2\n1 commit => waiting 1\n1 commit => later\n1 commit => late 1 1 0 k 2\norder\ndurable 0\n",
+        ];
+        for text in whole {
+            assert_eq!(rt; check_form(alloc, text)?, Verdict::Yes);
+        }
+        let texts: [(&[u8], u64); 9] = [
+            (b"", 1),
+            (b"? => done\norder\ndurable 0\n", 1),
+            (b"epoch => epoch 2\n", 2),
+            (b"order 1", 1),
+            (b"order 01\ndurable 0\n", 1),
+            (b"order\n", 2),
+            (b"order\ndurable 4294967296\n", 2),
+            (b"order\ndurable 0", 2),
+            (b"order\ndurable 0\n\n", 3),
+        ];
+        for (text, line) in texts {
+            let no = Verdict::No {
+                line,
+                fault: Fault::Text,
+            };
+            assert_eq!(rt; check_form(alloc, text)?, no);
+        }
+        let opens: [(&[u8], u64); 6] = [
+            (
+                b"1 short => begun 1\n1 short => begun 2\norder\ndurable 0\n",
+                2,
+            ),
+            (
+                b"1 short => begun 2\n2 short => begun 2\norder\ndurable 0\n",
+                2,
+            ),
+            (b"epoch => begun 1\norder\ndurable 0\n", 1),
+            (b"1 get 0 k => none\norder\ndurable 0\n", 1),
+            (
+                b"1 short => begun 1\n1 get 0 k => done\norder\ndurable 0\n",
+                2,
+            ),
+            (
+                b"1 short => begun 1\n1 commit => committed 1 before 2\norder\ndurable 0\n",
+                2,
+            ),
+        ];
+        for (text, line) in opens {
+            let no = Verdict::No {
+                line,
+                fault: Fault::Open,
+            };
+            assert_eq!(rt; check_form(alloc, text)?, no);
+        }
+        let orders: [(&[u8], u64); 3] = [
+            (b"order 1\ndurable 0\n", 1),
+            (
+                b"1 short => begun 1\n1 commit => committed 1\norder\ndurable 0\n",
+                3,
+            ),
+            (
+                b"1 short => begun 1\n1 commit => committed 1\norder 1 1\ndurable 0\n",
+                3,
+            ),
+        ];
+        for (text, line) in orders {
+            let no = Verdict::No {
+                line,
+                fault: Fault::Order,
+            };
+            assert_eq!(rt; check_form(alloc, text)?, no);
+        }
+        Ok(())
+    }
+}
