@@ -14,7 +14,7 @@ merge-requires c = record { rising = rising_found c.args.store.now c.args.mark c
 pub returns-clause-done : goal.returns-clause-done
 returns-clause-done c =
     let note : Noted = record { table = c.args.table; reach = Range c.args.low.now c.args.high.now c.in_ok-rows.field-0.looks.items c.in_ok-own.own.items; write = None } in
-    let notes : notes_of c.note_scan.new.self ≡ with_note (notes_of c.self.inside.kind) note = search rules in
+    let notes : notes_of c.note_scan-2.new.self ≡ with_note (notes_of c.self.inside.kind) note = search rules in
     scanned c.args.store.now c.args.mark c.scan_at.ensures.in_order c.args.self.now _ c.args.table c.args.low.now c.args.high.now
     c.in_ok-rows.field-0.rows.items c.in_ok-rows-2.rows.items c.in_ok-rows.field-0.looks.items c.in_ok-own.own.items _
     c.in_ok-rows.ensures.rows
@@ -23,6 +23,6 @@ returns-clause-done c =
     (c.in_ok-own.ensures ∙ ap (λ (s : OpenView). keys_between s.own.writes c.args.table c.args.low.now c.args.high.now) c.self.view_is)
     (ap Rows c.from_vec.ensures.value)
     c.requires.marked
-    (c.note_scan.ensures.number ∙ ap (λ (s : OpenView). s.number) c.self.view_is)
+    (c.note_scan-2.ensures.number ∙ ap (λ (s : OpenView). s.number) c.self.view_is)
     (notes ∙ ap (λ (s : OpenView). with_note s.notes note) c.self.view_is)
     (ap (λ (s : OpenView). s.own.writes) c.self.view_is)

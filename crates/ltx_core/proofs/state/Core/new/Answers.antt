@@ -11,6 +11,6 @@ pub returns : goal.returns
 returns c = record {
   stands = λ gate.
       new_stands (base_of c.args.base gate) _ (c.in_ok-load.ensures.rows ∙ c.into_rows.ensures.value)
-      (subst (λ rows. (cell : Cell) → AllByRecursion (IsOfBase rows cell) (versions_at c.in_ok-load.store cell)) c.into_rows.ensures.value c.in_ok-load.ensures.versions)
-      c.new.ensures.items refl c.new-2.ensures (ap (λ n. n + 1) c.epoch.ensures.value) c.epoch.ensures.value c.last.ensures.value;
+      (subst (λ rows. (cell : Cell) → AllByRecursion (IsOfBase rows cell) (versions_at c.in_ok-load.field-0 cell)) c.into_rows.ensures.value c.in_ok-load.ensures.versions)
+      c.new.ensures.items refl c.new-2.ensures (ap (λ n. n + 1) c.epoch-durable.ensures.value) c.epoch-durable.ensures.value c.last-last.ensures.value;
 }
