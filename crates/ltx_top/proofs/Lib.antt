@@ -1,4 +1,3 @@
-pub mod Fronts
 pub mod Lines
 pub mod Printable
 pub mod OneWord

@@ -1,8 +1,6 @@
--- Lines that the core does not see: what they are answered, and that it then stands for one entry more.
+-- A malformed line, which the core does not see: what it is answered, and that the core then stands for one entry more.
 use Rattle.std.proofs.Common.{◌≡◌, List, [], ◌∷◌, ◌++◌, refl, sym, ap, ◌∙◌}
 use Rattle.ltx_model.specs.declared.commands.Bad.{Bad}
-use Rattle.ltx_model.specs.declared.commands.Command.{Command}
-use Rattle.ltx_model.specs.declared.commands.Command.TheVariants as commands
 use Rattle.ltx_model.specs.declared.commands.Line.{Line}
 use Rattle.ltx_model.specs.declared.commands.Line.TheVariants as lines
 use Rattle.ltx_model.specs.declared.replies.Entry.{Entry}
@@ -23,14 +21,6 @@ bad_leaves : (s : State) (cause : Bad) → after s (record { line = lines.Bad ca
 unfolding after
 bad_leaves s cause = refl
 
-flush_reply : (s : State) → staged built s (lines.Good commands.Flush) ≡ replies.Later
-flush_reply s = refl
-
-flush_leaves : (s : State) → after s (record { line = lines.Good commands.Flush; reply = replies.Later }) ≡ s
-unfolding after
-flush_leaves s = refl
-
--- a malformed line
 pub bad_answer : (line : Line) (cause : Bad) → line ≡ lines.Bad cause → (s : State) → replies.Bad cause ≡ staged built s line
 bad_answer line cause is s = sym (ap (staged built s) is ∙ bad_reply s cause)
 
@@ -39,13 +29,3 @@ pub bad_stands : (core : CoreView) (base : Base) (history : List Entry) (line : 
 bad_stands core base history line cause is stands =
     quiet core base history (record { line = line; reply = replies.Bad cause })
     ((λ i. after (state base history) (record { line = is i; reply = replies.Bad cause })) ∙ bad_leaves (state base history) cause) stands
-
--- a flush, which is not built
-pub flush_answer : (command : Command) → command ≡ commands.Flush → (s : State) → replies.Later ≡ staged built s (lines.Good command)
-flush_answer command is s = sym (ap (λ c. staged built s (lines.Good c)) is ∙ flush_reply s)
-
-pub flush_stands : (core : CoreView) (base : Base) (history : List Entry) (command : Command) → command ≡ commands.Flush → StandsFor core base history
-    → StandsFor core base (history ++ record { line = lines.Good command; reply = replies.Later } ∷ [])
-flush_stands core base history command is stands =
-    quiet core base history (record { line = lines.Good command; reply = replies.Later })
-    ((λ i. after (state base history) (record { line = lines.Good (is i); reply = replies.Later })) ∙ flush_leaves (state base history)) stands

@@ -15,6 +15,7 @@ use Rattle.ltx_model.specs.States.{Base, IsSound, first_state, order}
 use Rattle.ltx_model.specs.Histories.{state}
 use Rattle.ltx_model.specs.Answers.{IsLegalWith, staged}
 use Rattle.ltx_model.specs.Explained.{IsExplained}
+use Rattle.ltx_model.specs.Recovery.{blank_base}
 use Rattle.ltx_model.proofs.OneMore.{legal-none, legal-push}
 use Rattle.ltx_core.specs.Built.{built}
 use Rattle.ltx_core.specs.Views.{CoreView}
@@ -25,12 +26,12 @@ use Rattle.ltx_text.specs.Lines.{LinesState, AsksOf, Cuts, Knows, NoFeedAhead, e
 use Rattle.ltx_text.proofs.LineLemmas.{Cuts-nothing, Cuts-then, feeds-append}
 use Rattle.ltx_text.proofs.LineAsks.{asks_none}
 use Rattle.ltx_text.proofs.LineRuns.{given_all, given_below, given_front, given_taken}
-use Rattle.ltx_top.specs.Transcripts.{empty_base, line_of_piece, script_lines, entry_text, history_text, ending_of}
+use Rattle.ltx_top.specs.Transcripts.{line_of_piece, script_lines, entry_text, history_text, ending_of}
 use Rattle.ltx_top.specs.Runs.{Devices, devices, most_of_script, took, is_bad, has_bad, AnswersBefore, AsksOnce, Ran, Stopped, Cut}
 use Rattle.ltx_top.specs.Progress.{Start, Hand, HasAsked, Progress, Halted, IsUnderWay}
 
-pub empty_sound : IsSound empty_base
-empty_sound = record { rising = tt; writers = tt; durable = omega arith; last = omega arith }
+pub blank_sound : IsSound blank_base
+blank_sound = record { rising = tt; writers = tt; durable = omega arith; last = omega arith }
 
 explains : (base : Base) (history : List Entry) → IsSound base → IsLegalWith built base history → IsExplained base history (order (state base history))
 explains base history sound legal = explained built base history sound legal

@@ -4,16 +4,12 @@ use Rattle.ltx_model.specs.declared.commands.Bad.TheVariants as causes
 use Rattle.ltx_model.specs.declared.commands.Line.{Line}
 use Rattle.ltx_model.specs.declared.commands.Line.TheVariants as lines
 use Rattle.ltx_model.specs.declared.replies.Entry.{Entry}
-use Rattle.ltx_model.specs.States.{Base, State, order}
+use Rattle.ltx_model.specs.States.{State, order}
 use Rattle.ltx_text.specs.Decimals.{decimal_of}
 use Rattle.ltx_text.specs.Lines.{pieces_of}
 use Rattle.ltx_script.specs.Commands.{command_text}
 use Rattle.ltx_script.specs.Lines.{line_of}
 use Rattle.ltx_reply.specs.Texts.{reply_text}
-
--- a run without a log starts from nothing
-abbrev pub empty_base : Base
-empty_base = record { rows = []; durable = 0; last = 0; gate = 17 }
 
 -- a line of a script: what its bytes spell, or a malformed one where there are too many
 abbrev pub line_of_piece : Option (List ℕ) → Line

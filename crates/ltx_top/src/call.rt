@@ -1,8 +1,8 @@
 //! The top call.
 
 ghost use Rattle.std.specs.Prelude.{◌≡◌, ◌≢◌, ◌≤◌, ◌<◌, ◌↔◌, ◌⊎◌, ℕ, List, Some, true, false, Ok, Err, map, length, [], ◌∷◌, codes, string_bytes, IfOk, IfErr, IfSome, OnOk};
+ghost use Rattle.ltx_model.specs.Recovery.{blank_base};
 ghost use Rattle.ltx_outside.specs.Faults.{Rose};
-ghost use Rattle.ltx_top.specs.Transcripts.{empty_base};
 ghost use Rattle.ltx_top.specs.Runs.{Cut, Ran, Stopped, devices, most_of_script, took};
 ghost use Rattle.ltx_top.specs.Endings.{RoseAt, Stops, status_number};
 
@@ -15,8 +15,8 @@ use std::alloc::Global;
 
 /// Runs a script: the answer is whether some reply was `bad`.
 fn run_script<S: Source, K: Sink>(alloc: Global, source: &mut S, sink: &mut K) -> Result<bool, Stop>
-    ensures ran { IfOk result (λ bad. Ran empty_base (devices (S.left source.old) (S.reads source.old) (K.written sink.old)) (devices (S.left source.new) (S.reads source.new) (K.written sink.new)) bad × (took (S.left source.old) (S.left source.new) ≤ most_of_script)) }
-    ensures stops { IfErr result (λ stop. Stops stop empty_base (devices (S.left source.old) (S.reads source.old) (K.written sink.old)) (devices (S.left source.new) (S.reads source.new) (K.written sink.new))) }
+    ensures ran { IfOk result (λ bad. Ran blank_base (devices (S.left source.old) (S.reads source.old) (K.written sink.old)) (devices (S.left source.new) (S.reads source.new) (K.written sink.new)) bad × (took (S.left source.old) (S.left source.new) ≤ most_of_script)) }
+    ensures stops { IfErr result (λ stop. Stops stop blank_base (devices (S.left source.old) (S.reads source.old) (K.written sink.old)) (devices (S.left source.new) (S.reads source.new) (K.written sink.new))) }
     ensures calm { OnOk result ((S.faults source.new ≡ S.faults source.old) × (K.faults sink.new ≡ K.faults sink.old)) }
     ensures rose { IfErr result (λ stop. RoseAt stop (S.faults source.old) (S.faults source.new) (K.faults sink.old) (K.faults sink.new)) }
     ensures source_counted { S.faults source.old ≤ S.faults source.new }
@@ -61,8 +61,8 @@ pub fn run<S: Source, D: Disk, K: Sink>(
 ) -> Status
     // All lines were answered, in order, each by the state before it, and printed with the order that explains them: 0 where
     // no reply is `bad`, and 1 where one is.
-    ensures ran { result.number ≡ 0 → Ran empty_base (devices (S.left source.old) (S.reads source.old) (K.written sink.old)) (devices (S.left source.new) (S.reads source.new) (K.written sink.new)) false }
-    ensures ran_malformed { result.number ≡ 1 → Ran empty_base (devices (S.left source.old) (S.reads source.old) (K.written sink.old)) (devices (S.left source.new) (S.reads source.new) (K.written sink.new)) true }
+    ensures ran { result.number ≡ 0 → Ran blank_base (devices (S.left source.old) (S.reads source.old) (K.written sink.old)) (devices (S.left source.new) (S.reads source.new) (K.written sink.new)) false }
+    ensures ran_malformed { result.number ≡ 1 → Ran blank_base (devices (S.left source.old) (S.reads source.old) (K.written sink.old)) (devices (S.left source.new) (S.reads source.new) (K.written sink.new)) true }
 
     // The words are no command: nothing is read or written.
     ensures words { result.number ≡ 2 ↔ (map string_bytes words.now ≢ codes "run" ∷ []) }
@@ -70,12 +70,12 @@ pub fn run<S: Source, D: Disk, K: Sink>(
     ensures disk { disk.new ≡ disk.old }
 
     // Want of memory, or a fault of the sink: a front was printed.
-    ensures no_memory { result.number ≡ 3 → Stopped empty_base (devices (S.left source.old) (S.reads source.old) (K.written sink.old)) (devices (S.left source.new) (S.reads source.new) (K.written sink.new)) }
-    ensures sink_fault { result.number ≡ 5 → Stopped empty_base (devices (S.left source.old) (S.reads source.old) (K.written sink.old)) (devices (S.left source.new) (S.reads source.new) (K.written sink.new)) }
+    ensures no_memory { result.number ≡ 3 → Stopped blank_base (devices (S.left source.old) (S.reads source.old) (K.written sink.old)) (devices (S.left source.new) (S.reads source.new) (K.written sink.new)) }
+    ensures sink_fault { result.number ≡ 5 → Stopped blank_base (devices (S.left source.old) (S.reads source.old) (K.written sink.old)) (devices (S.left source.new) (S.reads source.new) (K.written sink.new)) }
 
     // A fault of the source, or more bytes than a script may have: each entry was printed.
-    ensures source_fault { result.number ≡ 4 → Cut empty_base (devices (S.left source.old) (S.reads source.old) (K.written sink.old)) (devices (S.left source.new) (S.reads source.new) (K.written sink.new)) }
-    ensures too_much { result.number ≡ 9 → Cut empty_base (devices (S.left source.old) (S.reads source.old) (K.written sink.old)) (devices (S.left source.new) (S.reads source.new) (K.written sink.new)) }
+    ensures source_fault { result.number ≡ 4 → Cut blank_base (devices (S.left source.old) (S.reads source.old) (K.written sink.old)) (devices (S.left source.new) (S.reads source.new) (K.written sink.new)) }
+    ensures too_much { result.number ≡ 9 → Cut blank_base (devices (S.left source.old) (S.reads source.old) (K.written sink.old)) (devices (S.left source.new) (S.reads source.new) (K.written sink.new)) }
     ensures past { result.number ≡ 9 → IfSome (S.left source.old) (λ bytes. most_of_script < took (S.left source.old) (S.left source.new)) }
     ensures past_only { most_of_script < took (S.left source.old) (S.left source.new) → result.number ≡ 9 }
 

@@ -44,7 +44,7 @@ impl Responder {
     {
         Ok(Responder {
             alloc,
-            core: Core::new(alloc, Recovered::blank(alloc))?,
+            core: Core::new(alloc, base)?,
             text: Vec::new(alloc),
             malformed: false,
         })

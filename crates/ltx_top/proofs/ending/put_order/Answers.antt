@@ -1,6 +1,6 @@
 use Rattle.std.proofs.Common.{◌≡◌, length, take, flat_map, subst}
 use Rattle.ltx_top.specs.Transcripts.{spaced_number}
-use Rattle.ltx_top.proofs.Fronts.{front_of}
+use Rattle.ltx_text.proofs.Fronts.{front_of}
 use Rattle.ltx_top.proofs.ending.put_order.Goals as goal
 
 pub returns-in_err-put_number-clause-front : goal.returns-in_err-put_number-clause-front
