@@ -45,5 +45,5 @@ module _ (old : CoreView) where
       (ap (advance s) (sym not_last) ∙ staged_is s commands.Epoch)
       (ap (λ n. replies.Advanced (n + 1)) epoch)
       (λ more. subst (StandsAt (in_epoch old (old.counters.epoch + 1)) base (history ++ more))
-          (sym (advanced_shorts s (s.epoch + 1) (opens_shorts old.store old.commits base history old.opens s.active stands.opens)))
-          (longer (in_epoch old (old.counters.epoch + 1)) base history more (with_epoch s (s.epoch + 1)) now))
+      (sym (advanced_shorts s (s.epoch + 1) (opens_shorts old.store old.commits base history old.opens s.active stands.opens)))
+      (longer (in_epoch old (old.counters.epoch + 1)) base history more (with_epoch s (s.epoch + 1)) now))

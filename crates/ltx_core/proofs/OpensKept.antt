@@ -209,10 +209,11 @@ module _ (store : List Kept) (commits : ℕ) (base : Base) (history : List Entry
           → (find (is_of session) us ≡ Some o → AllByRecursion (IsFound store commits base history new) (change_first (is_of session) f us))
           → AllByRecursion (IsFound store commits base history new) (cond t (f u ∷ us) (u ∷ change_first (is_of session) f us))
       by_head true here found later =
-          let same : u.session ≡ session = eqb-true u.session session here in
-          (record { open_tx = b; here = ap (opened new) (stays u ∙ same) ∙ at.here; is_open = subst (λ w. IsOpen store commits base history (f w) b) (sym (some_same found)) open_is },
-          both_all (AreApart u) (IsFound store commits base history opens) (IsFound store commits base history new)
-              (λ v apart. other_stays session (Some b) new at v (subst (λ k. (v.session == k) ≡ false) same apart)) us pairs.0 all.1)
+          let same : u.session ≡ session = eqb-true u.session session here in (
+            record { open_tx = b; here = ap (opened new) (stays u ∙ same) ∙ at.here; is_open = subst (λ w. IsOpen store commits base history (f w) b) (sym (some_same found)) open_is },
+            both_all (AreApart u) (IsFound store commits base history opens) (IsFound store commits base history new)
+                (λ v apart. other_stays session (Some b) new at v (subst (λ k. (v.session == k) ≡ false) same apart)) us pairs.0 all.1,
+          )
       by_head false here found later = (other_stays session (Some b) new at u here all.0, later found)
 
     by_test : (n : ℕ) → find (is_of n) (change_first (is_of session) f active) ≡ None → (t : Bool) → (n == session) ≡ t → opened new n ≡ None

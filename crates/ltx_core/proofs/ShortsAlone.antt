@@ -42,4 +42,3 @@ pub advanced_shorts : (s : State) (epoch : ℕ) → AllByRecursion (λ o. o.kind
 advanced_shorts s epoch shorts =
     no_slots epoch (in_epoch s epoch) s.active shorts
     ∙ ap (λ l. let t : State = record { base = s.base; epoch = epoch; durable = s.durable; last = s.last; gate = s.gate; active = l; agenda = s.agenda; moves = s.moves } in t) (shorts_stay (serial s.agenda) s.active shorts)
-

@@ -54,10 +54,7 @@ impl Opens {
     pub(crate) fn has(&self, session: Session) -> bool
         ensures { result ≡ is_some (opened self.now session) }
     {
-        matches!(
-            self.slots.get(usize::from(session.number())),
-            Some(Some(_))
-        )
+        matches!(self.slots.get(usize::from(session.number())), Some(Some(_)))
     }
 
     /// The session has this open transaction, in place of the one that it had. After NoMemory there

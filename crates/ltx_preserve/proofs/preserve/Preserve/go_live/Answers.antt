@@ -12,7 +12,7 @@ pub invariant_of-self : goal.invariant_of-self
 invariant_of-self c =
     let first = subst (λ l. IsFirst (is_holder c.args.tx) l c.in-Some.place) c.deref.ensures.value c.in-Some.ensures.some in
     live_holders c.args.tx c.self.inside.entered.items _ c.in-Some.place c.index_mut.result.now c.tables-tables.result c.self.inside.least c.refresh.new.least first c.index_mut.ensures.value (ap (λ h. set c.self.inside.entered.items c.in-Some.place h) c.go_live.ensures)
-        (c.tables-tables.ensures ∙ ap (λ (h : Holder). h.tables) (sym (c.index_mut.ensures.value ∙ get_any c.self.inside.entered.items c.in-Some.place first.within c.index.result.now c.index_mut.result.now c.index.ensures))) c.self.invariant
+    (c.tables-tables.ensures ∙ ap (λ (h : Holder). h.tables) (sym (c.index_mut.ensures.value ∙ get_any c.self.inside.entered.items c.in-Some.place first.within c.index.result.now c.index_mut.result.now c.index.ensures))) c.self.invariant
     (λ t within is. subst (λ l. IsKept l t (slice_index_or c.refresh.new.least t None)) c.deref-in-Some.ensures.value (c.refresh.ensures.here t within is)) c.refresh.ensures.others
 
 pub returns-in-Some : goal.returns-in-Some
