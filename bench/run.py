@@ -6,7 +6,8 @@ usage: run.py PROGRAM [quick] [sqlite]
 PROGRAM is what the gate leaves at crates/ltx_run/out/ltx_run. Costs are instructions under valgrind's callgrind, less
 those of the rows that a workload loads first; a workload of 1,000,000 rows is measured by processor time and peak of
 memory alone. Under the row of 1,000 lines a transaction stands what of its cost lies outside the core: reader, parser,
-printer and the end of the run. `quick` leaves out what takes minutes. `sqlite` adds the same script's cost through
+printer and the end of the run; under one beside live batches, how many times the cost beside none it is. `quick` leaves
+out what takes minutes. `sqlite` adds the same script's cost through
 SQLite's C library (sqlite.c, built here where the library is installed), in memory, with prepared statements.
 """
 import os
@@ -30,12 +31,20 @@ TABLE = [
     ("a get among 100,000 rows", "gets", (10_000, 100_000), "get"),
     ("transfers; 1,000 rows; sums", "transfers", (10_000, 100_000), "transfer"),
     ("two sessions side by side; 1,000 keys", "beside", (10_000, 100_000), "pair"),
+    ("transfers beside a sum on a snapshot", "sum", (10_000, 100_000), "transfer"),
+    ("one get, one put; no live batch", "live-0", (10_000, 100_000), "transaction"),
+    ("one get, one put; beside 1 live batch", "live-1", (10_000, 100_000), "transaction"),
+    ("one get, one put; beside 8 live batches", "live-8", (10_000, 100_000), "transaction"),
+    ("one get, one put; beside 64 live batches", "live-64", (10_000, 100_000), "transaction"),
+    ("one get, one put; beside as many looks", "looks", (10_000, 100_000), "transaction"),
+    ("batches, each of the row before it", "chain", (1_000, 10_000), "batch"),
+    ("batches, each before one live elder", "elder", (200, 2_000), "batch"),
     ("get and put, 1,000 lines a transaction", "talk", (100_000,), "line"),
 ]
 TIMED = [("load in rising order", "rising", 1_000_000), ("load in random order", "random", 1_000_000)]
-LOADED = ("pairs-big", "scans", "mixed", "gets")
-# two sessions at once are two connections, which a database in memory does not have
-NOT_IN_SQLITE = ("beside",)
+LOADED = ("pairs-big", "scans", "mixed", "gets", "looks")
+# two sessions at once are two connections, which a database in memory does not have; it has no batches either
+NOT_IN_SQLITE = ("beside", "sum", "live-0", "live-1", "live-8", "live-64", "looks", "chain", "elder")
 
 
 def write(folder, workload, count):
@@ -90,10 +99,14 @@ def costs(program, folder, table):
 
 def print_costs(program, folder, table):
     print(f"{'workload':42} {'count':>9} {'instructions a unit':>22} {'growth':>7}")
-    first = {}
+    first, alone = {}, {}
     for name, workload, count, unit, each, total in costs(program, folder, table):
         first.setdefault(workload, each)
         print(f"{name:42} {count:9} {each:12.0f} a {unit[:11]:11} {each / first[workload]:6.2f}", flush=True)
+        if workload == "live-0":
+            alone[count] = each
+        elif workload.startswith("live-"):
+            print(f"{'  against beside none':52} {each / alone[count]:12.2f}", flush=True)
         if workload == "talk" and len(program) > 1:
             print(f"{'  of it outside the core':52} {(total - in_core(folder)) / count:12.0f} a {unit}", flush=True)
 

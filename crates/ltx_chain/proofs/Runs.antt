@@ -1,11 +1,11 @@
 -- A run of versions with the newest one apart: what is seen of it, and what is left of it.
-use Rattle.std.proofs.Common.{◌≡◌, ℕ, ◌-◌, ◌<◌, ◌≤◌, inl, inr, Bool, true, false, cond, List, [], ◌∷◌, ◌++◌, ◌||◌, length, drop, Option, Some, None, filter, refl, sym, ap, ◌∙◌, subst, append-nil, arith}
+use Rattle.std.proofs.Common.{◌≡◌, ℕ, ◌-◌, ◌<◌, inl, inr, Bool, true, false, cond, List, [], ◌∷◌, ◌++◌, ◌||◌, length, drop, Option, Some, None, filter, refl, sym, ap, ◌∙◌, subst}
 use Rattle.std.specs.List.{AllByRecursion, list_any}
 use Rattle.std.proofs.lemmas.Bool.{cases_Bool}
 use Rattle.ltx_chain.specs.declared.chain.Version.{Version}
 use Rattle.ltx_chain.specs.Versions.{AreBelow, IsRising, latest, visible, is_at_most, kept_from}
 use Rattle.ltx_chain.specs.Runs.{all_of, sees, IsRun}
-use Rattle.ltx_chain.proofs.Seen.{latest-append, visible-append, rising_push, rising_drop, visible-kept_from, kept_from_drop}
+use Rattle.ltx_chain.proofs.Seen.{latest-append, visible-append, rising_push, rising_drop, kept_from_drop}
 
 all_before : (P : Version → Type 0) (xs ys : List Version) → AllByRecursion P (xs ++ ys) → AllByRecursion P xs
 all_before P [] ys all = tt

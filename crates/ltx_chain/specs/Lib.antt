@@ -1,2 +1,3 @@
-pub mod Versions
+pub mod Marks
 pub mod Runs
+pub mod Versions

@@ -2,4 +2,5 @@
 #![tactic(auto)]
 
 pub mod chain;
+pub mod marked;
 mod run;

@@ -9,3 +9,12 @@ pub mod Seats
 pub mod Placed
 pub mod Told
 pub mod Sorts
+pub mod Belongs
+pub mod Committed
+pub mod RowPairs
+pub mod Explaining
+pub mod Ranges
+pub mod RowSteps
+pub mod Gathering
+pub mod Replaying
+pub mod Judging

@@ -5,7 +5,11 @@ use Rattle.ltx_check.specs.declared.verdict.Fault.TheVariants as faults
 use Rattle.ltx_check.specs.declared.verdict.Verdict.{Verdict}
 use Rattle.ltx_check.specs.declared.verdict.Verdict.TheVariants as verdicts
 use Rattle.ltx_check.specs.Opens.{Desk, first_desk, desk_after, desk_from, is_open_fault, AreWellPlaced, IsWellPlaced, IsOpenFault}
-use Rattle.ltx_check.specs.Verdicts.{IsWellFormed, IsMisordered, IsVerdict}
+use Rattle.ltx_model.specs.Recovery.{blank_base}
+use Rattle.ltx_model.specs.Explained.{IsExplained}
+use Rattle.ltx_check.specs.Replays.{IsReplayFault}
+use Rattle.ltx_check.specs.Verdicts.{IsExplainedText, IsMisordered, IsRepliedOtherwise, IsVerdict}
+use Rattle.ltx_check.proofs.Explaining.{explained_has, explained_plays, run_no_differs}
 use Rattle.ltx_check.specs.Orders.{HasCommitted}
 use Rattle.ltx_check.proofs.Unique.{says_one, says_order, says_no_fault, one_text_fault}
 
@@ -42,16 +46,41 @@ one_open_fault history other m n same f g =
     = first_placed first_desk f.before g.before f.entry g.entry f.after g.after (sym f.parts ∙ same ∙ g.parts) f.placed g.placed f.fault g.fault in
     omega (arith, f.counted, g.counted, long)
 
-ordered_no_fault : (text : List ℕ) → IsWellFormed text → (n : ℕ) → IsMisordered text n → ⊥
+ordered_no_fault : (text : List ℕ) → IsExplainedText text → (n : ℕ) → IsMisordered text n → ⊥
 ordered_no_fault text f n g =
     let same = says_one text f.history g.history f.order g.order f.durable g.durable f.says g.says in
     let orders = says_order text f.history g.history f.order g.order f.durable g.durable f.says g.says in
-    g.others (subst (λ o. HasCommitted g.history o) orders (subst (λ h. HasCommitted h f.order) same f.members))
+    g.others (subst (λ o. HasCommitted g.history o) orders (subst (λ h. HasCommitted h f.order) same (explained_has f.history f.order f.explained)))
 
 one_misordered : (text : List ℕ) (m n : ℕ) → IsMisordered text m → IsMisordered text n → m ≡ n
 one_misordered text m n f g =
     let long : length f.history ≡ length g.history = ap length (says_one text f.history g.history f.order g.order f.durable g.durable f.says g.says) in
     omega (arith, f.counted, g.counted, long)
+
+explained_no_other : (text : List ℕ) → IsExplainedText text → (n : ℕ) → IsRepliedOtherwise text n → ⊥
+explained_no_other text f n g =
+    let same = says_one text f.history g.history f.order g.order f.durable g.durable f.says g.says in
+    let orders = says_order text f.history g.history f.order g.order f.durable g.durable f.says g.says in
+    let explained : IsExplained blank_base g.history g.order = subst (IsExplained blank_base g.history) orders (subst (λ h. IsExplained blank_base h f.order) same f.explained) in
+    run_no_differs g.history [] g.order g.fault.place (explained_plays g.history g.order g.placed explained) g.fault.differs
+
+members_no_fault : (text : List ℕ) (m n : ℕ) → IsRepliedOtherwise text m → IsMisordered text n → ⊥
+members_no_fault text m n f g =
+    let same = says_one text f.history g.history f.order g.order f.durable g.durable f.says g.says in
+    let orders = says_order text f.history g.history f.order g.order f.durable g.durable f.says g.says in
+    g.others (subst (λ o. HasCommitted g.history o) orders (subst (λ h. HasCommitted h f.order) same f.members))
+
+one_fault : (history : List Entry) (order : List ℕ) (m n : ℕ) → IsReplayFault history order m → IsReplayFault history order n → m ≡ n
+one_fault history order m n f g =
+    let low = f.first g.place g.differs in
+    let high = g.first f.place f.differs in
+    omega (arith, low, high, f.counted, g.counted)
+
+one_other : (text : List ℕ) (m n : ℕ) → IsRepliedOtherwise text m → IsRepliedOtherwise text n → m ≡ n
+one_other text m n f g =
+    let same = says_one text f.history g.history f.order g.order f.durable g.durable f.says g.says in
+    let orders = says_order text f.history g.history f.order g.order f.durable g.durable f.says g.says in
+    one_fault g.history g.order m n (subst (λ o. IsReplayFault g.history o m) orders (subst (λ h. IsReplayFault h f.order m) same f.fault)) g.fault
 
 pub one_verdict : (text : List ℕ) (a b : Verdict) → IsVerdict text a → IsVerdict text b → a ≡ b
 one_verdict text verdicts.Yes verdicts.Yes f g = refl
@@ -75,3 +104,14 @@ one_verdict text (verdicts.No m faults.Order) (verdicts.No n faults.Text) f g = 
 one_verdict text (verdicts.No m faults.Order) (verdicts.No n faults.Open) f g =
     absurd (placed_no_fault f.history g.history n (says_one text f.history g.history f.order g.order f.durable g.durable f.says g.says) f.placed g.fault)
 one_verdict text (verdicts.No m faults.Order) (verdicts.No n faults.Order) f g = ap (λ k. verdicts.No k faults.Order) (one_misordered text m n f g)
+one_verdict text verdicts.Yes (verdicts.No n faults.Replay) f g = absurd (explained_no_other text f n g)
+one_verdict text (verdicts.No m faults.Replay) verdicts.Yes f g = absurd (explained_no_other text g m f)
+one_verdict text (verdicts.No m faults.Replay) (verdicts.No n faults.Text) f g = absurd (says_no_fault text f.history f.order f.durable n f.says g)
+one_verdict text (verdicts.No m faults.Replay) (verdicts.No n faults.Open) f g =
+    absurd (placed_no_fault f.history g.history n (says_one text f.history g.history f.order g.order f.durable g.durable f.says g.says) f.placed g.fault)
+one_verdict text (verdicts.No m faults.Replay) (verdicts.No n faults.Order) f g = absurd (members_no_fault text m n f g)
+one_verdict text (verdicts.No m faults.Replay) (verdicts.No n faults.Replay) f g = ap (λ k. verdicts.No k faults.Replay) (one_other text m n f g)
+one_verdict text (verdicts.No m faults.Text) (verdicts.No n faults.Replay) f g = absurd (says_no_fault text g.history g.order g.durable m g.says f)
+one_verdict text (verdicts.No m faults.Open) (verdicts.No n faults.Replay) f g =
+    absurd (placed_no_fault g.history f.history m (says_one text g.history f.history g.order f.order g.durable f.durable g.says f.says) g.placed f.fault)
+one_verdict text (verdicts.No m faults.Order) (verdicts.No n faults.Replay) f g = absurd (members_no_fault text n m g f)

@@ -52,7 +52,7 @@ module _ (session : ℕ) where
   alike_answers None reply ss os alike = alike
   alike_answers (Some op) reply ss os alike = alike_change (record { op = op; reply = reply }) ss os alike
 
-  alike_find : (ss : List Seat) (os : List Open) → AreAlike ss os → option_map (λ s. s.number) (find (is_seat session) ss) ≡ option_map (λ t. t.number) (option_map (λ o. o.tx) (find (is_session session) os))
+  pub alike_find : (ss : List Seat) (os : List Open) → AreAlike ss os → option_map (λ s. s.number) (find (is_seat session) ss) ≡ option_map (λ t. t.number) (option_map (λ o. o.tx) (find (is_session session) os))
   alike_find [] [] alike = refl
   alike_find [] (y ∷ os) alike = absurd alike
   alike_find (x ∷ ss) [] alike = absurd alike
@@ -126,7 +126,7 @@ module _ (session : ℕ) where
   reply_commits (replies.Bad cause) d os alike = refl
   reply_commits replies.Later d os alike = refl
 
-entry_alike : (d : Desk) (os : List Open) (entry : Entry) → AreAlike d.seats os → AreAlike (desk_after d entry).seats (opens_after os entry)
+pub entry_alike : (d : Desk) (os : List Open) (entry : Entry) → AreAlike d.seats os → AreAlike (desk_after d entry).seats (opens_after os entry)
 entry_alike d os entry alike = by (session_of entry.line)
   where
     by : (s : Option ℕ) → AreAlike (desk_after_in s entry.reply d).seats (opens_in s entry os)

@@ -6,4 +6,6 @@ pub mod Readings
 pub mod Opens
 pub mod Orders
 pub mod Found
+pub mod Tables
+pub mod Replays
 pub mod Verdicts

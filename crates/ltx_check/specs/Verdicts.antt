@@ -1,6 +1,8 @@
 -- What a verdict says of a text.
 use Rattle.std.specs.Prelude.{◌≡◌, ℕ, ◌+◌, List, length}
 use Rattle.ltx_model.specs.declared.replies.Entry.{Entry}
+use Rattle.ltx_model.specs.Recovery.{blank_base}
+use Rattle.ltx_model.specs.Explained.{IsExplained}
 use Rattle.ltx_check.specs.declared.verdict.Fault.{Fault}
 use Rattle.ltx_check.specs.declared.verdict.Fault.TheVariants as faults
 use Rattle.ltx_check.specs.declared.verdict.Verdict.{Verdict}
@@ -8,15 +10,16 @@ use Rattle.ltx_check.specs.declared.verdict.Verdict.TheVariants as verdicts
 use Rattle.ltx_check.specs.Lines.{Says, IsTextFault}
 use Rattle.ltx_check.specs.Opens.{IsWellPlaced, IsOpenFault}
 use Rattle.ltx_check.specs.Orders.{HasCommitted}
+use Rattle.ltx_check.specs.Replays.{IsReplayFault}
 
--- A text says a history whose entries may stand where they do, and an order of the committed transactions.
-pub record IsWellFormed (text : List ℕ) : Type 0 where
+-- A text says a history whose entries may stand where they do, and an order that explains it from the empty map.
+pub record IsExplainedText (text : List ℕ) : Type 0 where
   pub history : List Entry
   pub order : List ℕ
   pub durable : ℕ
   pub says : Says text history order durable
   pub placed : IsWellPlaced history
-  pub members : HasCommitted history order
+  pub explained : IsExplained blank_base history order
 
 -- A text says a history, and the entry in this line is the first that may not stand where it does.
 pub record IsMisplacedAt (text : List ℕ) (number : ℕ) : Type 0 where
@@ -36,13 +39,25 @@ pub record IsMisordered (text : List ℕ) (number : ℕ) : Type 0 where
   pub others : HasCommitted history order → ⊥
   pub counted : number ≡ length history + 1
 
+-- A text says a history whose entries may stand where they do, and an order of the committed transactions. The entry in this
+-- line is the first of a committed transaction that gets another reply when they run in that order from the empty map.
+pub record IsRepliedOtherwise (text : List ℕ) (number : ℕ) : Type 0 where
+  pub history : List Entry
+  pub order : List ℕ
+  pub durable : ℕ
+  pub says : Says text history order durable
+  pub placed : IsWellPlaced history
+  pub members : HasCommitted history order
+  pub fault : IsReplayFault history order number
+
 -- the fault of this kind in this line
 abbrev pub IsFaultAt : List ℕ → ℕ → Fault → Type 0
 IsFaultAt text number faults.Text = IsTextFault text number
 IsFaultAt text number faults.Open = IsMisplacedAt text number
 IsFaultAt text number faults.Order = IsMisordered text number
+IsFaultAt text number faults.Replay = IsRepliedOtherwise text number
 
 -- the verdict on a text
 abbrev pub IsVerdict : List ℕ → Verdict → Type 0
-IsVerdict text verdicts.Yes = IsWellFormed text
+IsVerdict text verdicts.Yes = IsExplainedText text
 IsVerdict text (verdicts.No number fault) = IsFaultAt text number fault

@@ -1,13 +1,15 @@
 //! What is open while a transcript is read: which transaction each session has, and the greatest number begun.
 
-ghost use Rattle.std.specs.Prelude.{◌≡◌, ◌≤◌, ◌<◌, ◌++◌, ◌∷◌, [], length, remove, IfOk, IfSome, IfNone, OnOk, Some, None, option_map};
+ghost use Rattle.std.specs.Prelude.{◌≡◌, ◌≤◌, ◌<◌, ◌++◌, ◌∷◌, [], length, remove, IfOk, IfSome, IfNone, OnOk, Some, None, option_map, is_some};
 ghost use Rattle.ltx_model.specs.declared.replies.Entry.{Entry};
-ghost use Rattle.ltx_model.specs.Histories.{session_of};
+ghost use Rattle.ltx_model.specs.Histories.{session_of, operation_of};
+ghost use Rattle.ltx_model.specs.Explained.{effect_of};
+ghost use Rattle.ltx_check.specs.Replays.{is_answering, is_answer, answered_number};
 ghost use Rattle.ltx_check.specs.Opens.{Desk, first_desk, seat_of, without_seat, begins, ends, desk_after, desk_after_reply, desk_after_in, is_misplaced, is_misplaced_in, is_open_fault, committed_number, IsWellPlaced, IsOpenFault};
 ghost use Rattle.ltx_check.specs.Found.{FindsOpenFault};
 
 use crate::asked::{asked_by, gives};
-use ltx_model::commands::{Command, Line};
+use ltx_model::commands::{Command, Line, Verb};
 use ltx_model::memory::NoMemory;
 use ltx_model::numbers::{Session, Tx};
 use ltx_model::replies::{Entry, Reply};
@@ -81,6 +83,30 @@ fn number_in(seat: Option<Seat>) -> Option<Tx>
         None => None,
         Some(seat) => Some(seat.number),
     }
+}
+
+/// Whether the reply answers the operation that the line asks.
+fn is_answer(entry: &Entry) -> bool
+    ensures { result ≡ is_answer entry.now }
+{
+    asks_operation(&entry.line) && is_reply_of_operation(&entry.reply)
+}
+
+/// Whether the line asks an operation.
+fn asks_operation(line: &Line) -> bool
+    ensures { result ≡ is_some (operation_of line.now) }
+{
+    matches!(line, Line::Good(Command::Ask(_, Verb::Do(_))))
+}
+
+/// Whether the reply answers an operation.
+fn is_reply_of_operation(reply: &Reply) -> bool
+    ensures { result ≡ is_answering (effect_of reply.now) }
+{
+    matches!(
+        reply,
+        Reply::Found { .. } | Reply::Absent | Reply::Rows { .. } | Reply::Done
+    )
 }
 
 impl Seats {
@@ -160,6 +186,20 @@ impl Seats {
                 number_in(seat_of(&self.seats, session))
             }
             _ => None,
+        }
+    }
+
+    /// The number of the transaction in which an entry is answered.
+    pub fn answered_by(&self, entry: &Entry) -> Option<Tx>
+        ensures { result ≡ answered_number self.now entry.now }
+    {
+        let Some(session) = session_of(&entry.line) else {
+            return None;
+        };
+        if is_answer(entry) {
+            number_in(seat_of(&self.seats, session))
+        } else {
+            None
         }
     }
 

@@ -6,7 +6,10 @@ mod cuts;
 mod desk;
 mod entries;
 mod orders;
+mod parts;
 mod reading;
+mod replay;
+mod rows;
 pub mod verdict;
 mod words;
 
@@ -89,6 +92,41 @@ mod tests {
                 fault: Fault::Order,
             };
             assert_eq!(rt; check_form(alloc, text)?, no);
+        }
+        Ok(())
+    }
+
+    const FORWARDED: &[u8] =
+        b"1 long W=0 R=2 => begun 1 at 2\n2 long W=1 => begun 2 at 2\nepoch => epoch 2\n1 get 2 z => none\n2 get 0 y => none\n1 put 0 y a => done\n2 put 1 x b => done\n2 commit => committed 2 before 1\n1 commit => committed 2\nepoch => epoch 3\nflush => durable 2\norder 2 1\ndurable 2\n";
+
+    #[test]
+    fn replies_are_checked(rt: HostRuntime) -> Result<(), Fail> {
+        let alloc = rt.alloc();
+        assert_eq!(rt; check_form(alloc, FORWARDED)?, Verdict::Yes);
+        let others: [(&[u8], u64, Fault); 4] = [
+            (
+                b"1 long W=0 R=2 => begun 1 at 2\n2 long W=1 => begun 2 at 2\nepoch => epoch 2\n1 get 2 z => none\n2 get 0 y => none\n1 put 0 y a => done\n2 put 1 x b => done\n2 commit => committed 2 before 1\n1 commit => committed 2\nepoch => epoch 3\nflush => durable 2\norder 1 2\ndurable 2\n",
+                5,
+                Fault::Replay,
+            ),
+            (
+                b"1 short => begun 1\n1 put 0 a b => done\n1 put 0 c d => done\n1 scan 0 a % => rows 1 a b\n1 commit => committed 1\norder 1\ndurable 0\n",
+                4,
+                Fault::Replay,
+            ),
+            (
+                b"1 short => begun 1\n1 put 0 a b => done\n1 commit => committed 1\n1 short => begun 2\n1 get 0 a => none\n1 get 0 c => found d\n1 commit => committed 1\norder 1 2\ndurable 0\n",
+                5,
+                Fault::Replay,
+            ),
+            (
+                b"1 short => begun 1\n1 get 0 a => found b\n1 commit => committed 1\n1 commit => committed 1\norder 1\ndurable 0\n",
+                4,
+                Fault::Open,
+            ),
+        ];
+        for (text, line, fault) in others {
+            assert_eq!(rt; check_form(alloc, text)?, Verdict::No { line, fault });
         }
         Ok(())
     }

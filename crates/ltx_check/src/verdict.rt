@@ -4,11 +4,13 @@ ghost use Rattle.std.specs.Prelude.{◌≡◌, ℕ, List, IfOk};
 ghost use Rattle.ltx_check.specs.declared.verdict.Verdict.{Verdict};
 ghost use Rattle.ltx_check.specs.Lines.{Says};
 ghost use Rattle.ltx_check.specs.Opens.{IsWellPlaced};
+ghost use Rattle.ltx_check.specs.Orders.{HasCommitted};
 ghost use Rattle.ltx_check.specs.Verdicts.{IsVerdict};
 
 use crate::desk::first_open_fault;
 use crate::orders::{committed_numbers, has_all};
 use crate::reading::{Reading, Transcript, read_transcript};
+use crate::replay::first_other_reply;
 use ltx_model::memory::NoMemory;
 use std::alloc::Global;
 
@@ -22,6 +24,9 @@ pub enum Fault {
     Open,
     /// The line is the order, and it has not the committed transactions and no others, each once.
     Order,
+    /// The entry is of a committed transaction, and gets another reply when these run one at a time, in the printed order, from the
+    /// empty map.
+    Replay,
 }
 
 /// The verdict on a transcript. Lines count from 1; a line that is missing has the number after the last.
@@ -31,7 +36,23 @@ pub enum Verdict {
     No { line: u64, fault: Fault },
 }
 
-/// Whether the order has the committed transactions.
+/// Whether the order explains the replies.
+fn check_replies(alloc: Global, transcript: &Transcript) -> Result<Verdict, NoMemory>
+    requires placed { IsWellPlaced transcript.now.entries.items }
+    requires members { HasCommitted transcript.now.entries.items transcript.now.order.items }
+    ensures { IfOk result (λ verdict. (text : List ℕ) → Says text transcript.now.entries.items transcript.now.order.items transcript.now.durable → IsVerdict text verdict) }
+{
+    match first_other_reply(alloc, &transcript.entries, &transcript.order) {
+        Err(fault) => Err(fault),
+        Ok(None) => Ok(Verdict::Yes),
+        Ok(Some(place)) => Ok(Verdict::No {
+            line: place as u64 + 1,
+            fault: Fault::Replay,
+        }),
+    }
+}
+
+/// Whether the order has the committed transactions, and explains the replies.
 fn check_order(alloc: Global, transcript: &Transcript) -> Result<Verdict, NoMemory>
     requires placed { IsWellPlaced transcript.now.entries.items }
     ensures { IfOk result (λ verdict. (text : List ℕ) → Says text transcript.now.entries.items transcript.now.order.items transcript.now.durable → IsVerdict text verdict) }
@@ -39,7 +60,7 @@ fn check_order(alloc: Global, transcript: &Transcript) -> Result<Verdict, NoMemo
     let numbers = committed_numbers(alloc, &transcript.entries)?;
     match has_all(alloc, &numbers, &transcript.order) {
         Err(fault) => Err(fault),
-        Ok(true) => Ok(Verdict::Yes),
+        Ok(true) => check_replies(alloc, transcript),
         Ok(false) => Ok(Verdict::No {
             line: transcript.entries.len() as u64 + 1,
             fault: Fault::Order,
@@ -62,7 +83,8 @@ fn check_entries(alloc: Global, transcript: &Transcript) -> Result<Verdict, NoMe
 }
 
 /// What the text says is a history, an order and a durable epoch, each entry may stand where it does, and the order has the
-/// committed transactions, each once; or else the first fault. That the order explains the replies is not checked yet.
+/// committed transactions, each once, and explains their replies; or else the first fault. Where commits stand in the order
+/// beside their times and their numbers is not checked yet.
 pub fn check_form(alloc: Global, text: &[u8]) -> Result<Verdict, NoMemory>
     ensures verdict { IfOk result (λ verdict. IsVerdict text.now verdict) }
 {

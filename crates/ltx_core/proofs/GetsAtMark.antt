@@ -1,6 +1,5 @@
 -- An operation at a mark that leaves one note: a get, or a write.
-use Rattle.std.proofs.Common.{◌≡◌, ℕ, true, false, List, [], ◌∷◌, ◌++◌, Option, Some, None, is_some, is_none, option_map, Result, Ok, Err, IfOk, OnOk, refl, sym, ap, subst, ◌∙◌}
-use Rattle.std.specs.List.{AllByRecursion}
+use Rattle.std.proofs.Common.{◌≡◌, ℕ, true, false, List, [], ◌∷◌, ◌++◌, Option, Some, None, is_some, option_map, Result, Ok, Err, IfOk, OnOk, refl, sym, ap, ◌∙◌}
 use Rattle.ltx_model.specs.declared.commands.Op.{Op}
 use Rattle.ltx_model.specs.declared.commands.Op.TheVariants.{Get, Scan, Put, Del}
 use Rattle.ltx_model.specs.declared.looked.Reach.TheVariants.{Nothing, Point}
@@ -12,73 +11,56 @@ use Rattle.ltx_model.specs.declared.rows.StoredRow.{StoredRow}
 use Rattle.ltx_model.specs.declared.writes.Look.{Look}
 use Rattle.ltx_model.specs.declared.writes.Write.{Write}
 use Rattle.ltx_model.specs.Keys.{Cell, put_in_order, IsRising}
-use Rattle.ltx_model.specs.StoredRows.{row_at, writer_at}
+use Rattle.ltx_model.specs.StoredRows.{row_at}
 use Rattle.ltx_model.specs.Operations.{cell_of_write, table_of, write_of, writes_key, put_write, writes_of}
-use Rattle.ltx_model.specs.Notes.{found_by, IsLook, IsReach, IsNote}
+use Rattle.ltx_model.specs.Notes.{IsReachBy, IsNoteBy}
 use Rattle.ltx_model.specs.Rows.{found, reply_on, rows_after_all, see}
+use Rattle.ltx_model.specs.NoteLists.{NoteList, with_note}
 use Rattle.ltx_model.proofs.OneMore.{see-is}
 use Rattle.ltx_lemmas.proofs.Lists.{some_same, none_some, true_false}
 use Rattle.ltx_lemmas.proofs.Views.{agree_written}
-use Rattle.ltx_buffer.specs.Own.{Own, write_at, row_under}
+use Rattle.ltx_buffer.specs.Own.{write_at, row_under}
 use Rattle.ltx_buffer.proofs.Keys.{is_own, own_row}
 use Rattle.ltx_chain.specs.declared.chain.Version.{Version}
 use Rattle.ltx_chain.specs.Versions.{visible}
-use Rattle.ltx_model.specs.NoteLists.{NoteList, with_note, at_mark}
 use Rattle.ltx_store.specs.Kept.{Kept, cell_of_kept, versions_at, row_put, row_of_version, rows_at}
-use Rattle.ltx_store.specs.Latest.{putter}
 use Rattle.ltx_store.specs.Scans.{look_of_version}
 use Rattle.ltx_store.proofs.Changes.{row_of_seen}
-use Rattle.ltx_store.proofs.Looks.{writer_of_seen}
 use Rattle.ltx_store.proofs.Rows.{rows_rising}
+use Rattle.ltx_core.specs.declared.stage.Stage.TheVariants as stages
 use Rattle.ltx_core.specs.Views.{OpenView}
-use Rattle.ltx_core.specs.Operations.{HasDone, IsDeleted, IsToldBy, looks_in}
+use Rattle.ltx_core.specs.Operations.{HasDone, IsSeenLook}
 use Rattle.ltx_core.specs.Seen.{answered, put_by}
 
--- What the fields of an open transaction say of an operation that it did: its note, its write, and what was told.
+-- What the fields of an open transaction say of an operation that it did: its note, its write, and what was seen.
 pub done_by : (kept : List Kept) (mark : ℕ) (old new : OpenView) (op : Op) (reply : Reply) (note : Noted)
-    → old.notes.mark ≡ mark → new.number ≡ old.number → new.notes ≡ with_note old.notes note → new.own.writes ≡ put_write (write_of op) old.own.writes
-    → AllByRecursion (IsToldBy kept mark note.table) (looks_in note.reach)
+    → (old.stage ≡ stages.Short → old.notes.mark ≡ mark) → new.number ≡ old.number → new.stage ≡ old.stage → new.notes ≡ with_note old.notes note
+    → new.own.writes ≡ put_write (write_of op) old.own.writes
     → ((earlier : List Op) → old.own.writes ≡ writes_of earlier → reply ≡ see old.number (rows_at mark kept) earlier op)
-    → ((earlier : List Op) → old.own.writes ≡ writes_of earlier → IsNote (rows_at mark kept) earlier op note)
+    → ((earlier : List Op) → old.own.writes ≡ writes_of earlier → IsNoteBy (IsSeenLook kept mark) earlier op note)
     → HasDone kept mark old op reply new
-done_by kept mark old new op reply note marked number notes own told seen note_is = record {
+done_by kept mark old new op reply note marked number stage notes own seen note_is = record {
   number = number;
+  stage = stage;
   note = note;
   noted = ap (λ (l : NoteList). l.notes) notes;
-  marked = ap (λ (l : NoteList). l.marks) notes ∙ ap (λ m. old.notes.marks ++ m ∷ []) marked;
+  marked = λ short. ap (λ (l : NoteList). l.marks) notes ∙ ap (λ m. old.notes.marks ++ m ∷ []) (marked short);
   own = own;
-  told = told;
   seen = seen;
   note_is = note_is;
 }
 
--- the next notes being of the mark changes nothing of this
-pub done_marked : (kept : List Kept) (mark : ℕ) (old at new : OpenView) (op : Op) (reply : Reply) → at.number ≡ old.number → at.notes ≡ at_mark old.notes mark → at.own ≡ old.own
-    → HasDone kept mark at op reply new → HasDone kept mark old op reply new
-done_marked kept mark old at new op reply number notes own done =
-    let writes : at.own.writes ≡ old.own.writes = ap (λ (w : Own). w.writes) own in
-    record {
-      number = done.number ∙ number;
-      note = done.note;
-      noted = done.noted ∙ ap (λ (l : NoteList). l.notes ++ done.note ∷ []) notes;
-      marked = done.marked ∙ ap (λ (l : NoteList). l.marks ++ mark ∷ []) notes;
-      own = done.own ∙ ap (put_write (write_of op)) writes;
-      told = done.told;
-      seen = λ earlier same. done.seen earlier (writes ∙ same) ∙ ap (λ n. see n (rows_at mark kept) earlier op) number;
-      note_is = λ earlier same. done.note_is earlier (writes ∙ same);
-    }
-
 -- a write is answered `done`, whatever stands there
-pub write_done : (kept : List Kept) (mark : ℕ) (old new : OpenView) (table : ℕ) (key : List ℕ) (put : Option (List ℕ)) (op : Op) (reply : Reply)
+write_done : (kept : List Kept) (mark : ℕ) (old new : OpenView) (table : ℕ) (key : List ℕ) (put : Option (List ℕ)) (op : Op) (reply : Reply)
     → write_of op ≡ Some (record { table = table; key = key; put = put })
     → reply ≡ Done
-    → old.notes.mark ≡ mark → new.number ≡ old.number → new.notes ≡ with_note old.notes (record { table = table; reach = Nothing; write = Some key })
+    → (old.stage ≡ stages.Short → old.notes.mark ≡ mark) → new.number ≡ old.number → new.stage ≡ old.stage → new.notes ≡ with_note old.notes (record { table = table; reach = Nothing; write = Some key })
     → new.own.writes ≡ put_in_order cell_of_write (record { table = table; key = key; put = put }) old.own.writes
     → HasDone kept mark old op reply new
-write_done kept mark old new table key put op reply is answer marked number tx own =
+write_done kept mark old new table key put op reply is answer marked number stage notes own =
     let note : Noted = record { table = table; reach = Nothing; write = Some key } in
     let write : Write = record { table = table; key = key; put = put } in
-    done_by kept mark old new op reply note marked number tx (own ∙ ap (λ o. put_write o old.own.writes) (sym is)) tt
+    done_by kept mark old new op reply note marked number stage notes (own ∙ ap (λ o. put_write o old.own.writes) (sym is))
     (λ earlier same. answer ∙ sym (see-is old.number (rows_at mark kept) earlier op ∙ by_op op is (rows_after_all old.number (rows_at mark kept) earlier)))
     (λ earlier same. record { table = in_table op is; reach = nothing op is earlier; write = sym (ap (option_map (λ w. w.key)) is) }) where
       by_op : (op : Op) → write_of op ≡ Some (record { table = table; key = key; put = put }) → (rows : List StoredRow) → reply_on rows op ≡ Done
@@ -93,18 +75,19 @@ write_done kept mark old new table key put op reply is answer marked number tx o
       in_table (Put t k v) is = ap (λ (w : Write). w.table) (sym (some_same is))
       in_table (Del t k) is = ap (λ (w : Write). w.table) (sym (some_same is))
 
-      nothing : (op : Op) → write_of op ≡ Some (record { table = table; key = key; put = put }) → (earlier : List Op) → IsReach (rows_at mark kept) earlier op Nothing
+      nothing : (op : Op) → write_of op ≡ Some (record { table = table; key = key; put = put }) → (earlier : List Op) → IsReachBy (IsSeenLook kept mark) earlier op Nothing
       nothing (Get t k) is earlier = absurd (none_some is)
       nothing (Scan t l h) is earlier = absurd (none_some is)
       nothing (Put t k v) is earlier = tt
       nothing (Del t k) is earlier = tt
 
 pub write_gives : (kept : List Kept) (mark : ℕ) (old new : OpenView) (w : Write) (op : Op) (r : Result Reply NoMemory) → write_of op ≡ Some w
-    → IfOk r (λ reply. reply ≡ Done) → old.notes.mark ≡ mark → OnOk r (new.number ≡ old.number) → OnOk r (new.notes ≡ with_note old.notes (record { table = w.table; reach = Nothing; write = Some w.key }))
+    → IfOk r (λ reply. reply ≡ Done) → (old.stage ≡ stages.Short → old.notes.mark ≡ mark) → OnOk r (new.number ≡ old.number) → OnOk r (new.stage ≡ old.stage)
+    → OnOk r (new.notes ≡ with_note old.notes (record { table = w.table; reach = Nothing; write = Some w.key }))
     → OnOk r (new.own.writes ≡ put_in_order cell_of_write w old.own.writes)
     → IfOk r (λ reply. HasDone kept mark old op reply new)
-write_gives kept mark old new w op (Ok reply) is answer marked number tx own = write_done kept mark old new w.table w.key w.put op reply is answer marked number tx own
-write_gives kept mark old new w op (Err e) is answer marked number tx own = tt
+write_gives kept mark old new w op (Ok reply) is answer marked number stage notes own = write_done kept mark old new w.table w.key w.put op reply is answer marked number stage notes own
+write_gives kept mark old new w op (Err e) is answer marked number stage notes own = tt
 
 -- the value of a key under its own write
 found_under : (tx : ℕ) (w : Write) (put : Option (List ℕ)) → w.put ≡ put → found (row_under tx (Some w) None) ≡ answered put
@@ -120,49 +103,18 @@ found_seen : (c : Cell) (o : Option Version) → found (row_of_version c o) ≡ 
 found_seen c None = refl
 found_seen c (Some v) = found_put c v.writer v.put
 
--- a version's look tells who wrote the row
-found_look : (key : List ℕ) (writer : ℕ) (put : Option (List ℕ)) → found_by (record { key = key; writer = writer; gone = is_none put }) ≡ option_map (λ value. writer) put
-found_look key writer None = refl
-found_look key writer (Some value) = refl
-
-seen_look : (rows : List StoredRow) (c : Cell) (o : Option Version) → writer_at rows c ≡ putter o → IsLook rows c (look_of_version c.key o)
-seen_look rows c None is = is
-seen_look rows c (Some v) is = (refl, found_look c.key v.writer v.put ∙ sym is)
-
-none_is : (put : Option (List ℕ)) → is_none put ≡ true → put ≡ None
-none_is None is = refl
-none_is (Some value) is = absurd (true_false (sym is))
-
-module _ (kept : List Kept) (mark : ℕ) (rising : IsRising cell_of_kept kept) where
-  -- the look of the version seen tells who wrote the row at the mark
-  pub look_is : (c : Cell) → IsLook (rows_at mark kept) c (look_of_version c.key (visible mark (versions_at kept c)))
-  look_is c = seen_look (rows_at mark kept) c (visible mark (versions_at kept c)) (writer_of_seen (visible mark) refl kept c rising)
-
-  -- and a look of a deletion comes from it
-  pub look_told : (c : Cell) (l : Look) → look_of_version c.key (visible mark (versions_at kept c)) ≡ Some l → l.gone ≡ true → IsDeleted kept mark c l.writer
-  look_told c l is gone = by_version (visible mark (versions_at kept c)) refl is where
-    by_version : (o : Option Version) → visible mark (versions_at kept c) ≡ o → look_of_version c.key o ≡ Some l → IsDeleted kept mark c l.writer
-    by_version None at is = absurd (none_some is)
-    by_version (Some v) at is =
-        let same = some_same is in
-        record {
-          version = v;
-          seen = at;
-          deletes = none_is v.put (ap (λ (k : Look). k.gone) same ∙ gone);
-          by = ap (λ (k : Look). k.writer) same;
-        }
-
 -- a key of a table
 abbrev at : ℕ → List ℕ → Cell
 at table key = record { table = table; key = key }
 
--- a get of a key that the short wrote
+-- a get of a key that the transaction wrote
 pub own_got : (kept : List Kept) (mark : ℕ) (old new : OpenView) (table : ℕ) (key : List ℕ) (w : Write) (reply : Reply)
     → write_at old.own.writes (at table key) ≡ Some w → reply ≡ answered w.put
-    → old.notes.mark ≡ mark → new.number ≡ old.number → new.notes ≡ with_note old.notes (record { table = table; reach = Point key None true; write = None }) → new.own.writes ≡ old.own.writes
+    → (old.stage ≡ stages.Short → old.notes.mark ≡ mark) → new.number ≡ old.number → new.stage ≡ old.stage
+    → new.notes ≡ with_note old.notes (record { table = table; reach = Point key None true; write = None }) → new.own.writes ≡ old.own.writes
     → HasDone kept mark old (Get table key) reply new
-own_got kept mark old new table key w reply has answer marked number tx own =
-    done_by kept mark old new (Get table key) reply (record { table = table; reach = Point key None true; write = None }) marked number tx own tt seen
+own_got kept mark old new table key w reply has answer marked number stage notes own =
+    done_by kept mark old new (Get table key) reply (record { table = table; reach = Point key None true; write = None }) marked number stage notes own seen
     (λ earlier same. record { table = refl; reach = (refl, record { own_key = sym (written earlier same); looked = λ no. absurd (true_false no) }); write = refl }) where
       written : (earlier : List Op) → old.own.writes ≡ writes_of earlier → writes_key earlier (at table key) ≡ true
       written earlier same = sym (is_own earlier (at table key)) ∙ ap (λ ws. is_some (write_at ws (at table key))) (sym same) ∙ ap is_some has
@@ -178,23 +130,12 @@ own_got kept mark old new table key w reply has answer marked number tx own =
 pub seen_got : (kept : List Kept) (mark : ℕ) → IsRising cell_of_kept kept → (old new : OpenView) (table : ℕ) (key : List ℕ) (seen : Option Version) (look : Option Look) (reply : Reply)
     → write_at old.own.writes (at table key) ≡ None → seen ≡ visible mark (versions_at kept (at table key))
     → reply ≡ answered (put_by seen) → look ≡ look_of_version key seen
-    → old.notes.mark ≡ mark → new.number ≡ old.number → new.notes ≡ with_note old.notes (record { table = table; reach = Point key look false; write = None }) → new.own.writes ≡ old.own.writes
+    → (old.stage ≡ stages.Short → old.notes.mark ≡ mark) → new.number ≡ old.number → new.stage ≡ old.stage
+    → new.notes ≡ with_note old.notes (record { table = table; reach = Point key look false; write = None }) → new.own.writes ≡ old.own.writes
     → HasDone kept mark old (Get table key) reply new
-seen_got kept mark rising old new table key seen look reply has at_mark_is answer look_at marked number tx own =
-    done_by kept mark old new (Get table key) reply (record { table = table; reach = Point key look false; write = None }) marked number tx own (told look look_seen) replied
-    (λ earlier same. record { table = refl; reach = (refl, record { own_key = sym (unwritten earlier same); looked = λ no. subst (IsLook (rows_at mark kept) (at table key)) (sym look_seen) (look_is kept mark rising (at table key)) }); write = refl }) where
-      look_seen : look ≡ look_of_version key (visible mark (versions_at kept (at table key)))
-      look_seen = look_at ∙ ap (look_of_version key) at_mark_is
-
-      told : (o : Option Look) → o ≡ look_of_version key (visible mark (versions_at kept (at table key))) → AllByRecursion (IsToldBy kept mark table) (looks_in (Point key o false))
-      told None is = tt
-      told (Some l) is =
-          let key_is : l.key ≡ key = keys_of (visible mark (versions_at kept (at table key))) l (sym is) in
-          (λ gone. subst (λ k. IsDeleted kept mark (record { table = table; key = k }) l.writer) (sym key_is) (look_told kept mark rising (at table key) l (sym is) gone), tt) where
-            keys_of : (o : Option Version) (l : Look) → look_of_version key o ≡ Some l → l.key ≡ key
-            keys_of None l is = absurd (none_some is)
-            keys_of (Some v) l is = ap (λ (k : Look). k.key) (sym (some_same is))
-
+seen_got kept mark rising old new table key seen look reply has at_mark_is answer look_at marked number stage notes own =
+    done_by kept mark old new (Get table key) reply (record { table = table; reach = Point key look false; write = None }) marked number stage notes own replied
+    (λ earlier same. record { table = refl; reach = (refl, record { own_key = sym (unwritten earlier same); looked = λ no. look_at ∙ ap (look_of_version key) at_mark_is }); write = refl }) where
       unwritten : (earlier : List Op) → old.own.writes ≡ writes_of earlier → writes_key earlier (at table key) ≡ false
       unwritten earlier same = sym (is_own earlier (at table key)) ∙ ap (λ ws. is_some (write_at ws (at table key))) (sym same) ∙ ap is_some has
 

@@ -1,5 +1,5 @@
 -- The writes of a commit in the store: those that are left while they are installed, and what holds once all are.
-use Rattle.std.proofs.Common.{◌≡◌, inl, inr, ℕ, zero, suc, ◌+◌, ◌-◌, ◌<◌, Bool, true, false, cond, List, [], ◌∷◌, ◌++◌, length, Option, Some, None, is_some, refl, sym, ap, ◌∙◌, subst, arith, append-nil, append_assoc}
+use Rattle.std.proofs.Common.{◌≡◌, inl, inr, ℕ, zero, suc, ◌+◌, ◌-◌, ◌<◌, Bool, true, false, cond, List, [], ◌∷◌, ◌++◌, length, Option, Some, None, refl, sym, ap, ◌∙◌, subst, arith, append-nil}
 use Rattle.std.specs.Prelude.{slice_get}
 use Rattle.std.specs.List.{AllByRecursion}
 use Rattle.std.specs.Ordering.{is_eq}
@@ -8,22 +8,19 @@ use Rattle.ltx_model.specs.declared.rows.StoredRow.{StoredRow}
 use Rattle.ltx_model.specs.declared.writes.Write.{Write}
 use Rattle.ltx_model.specs.Keys.{Cell, same_cell, AreAbove, IsRising}
 use Rattle.ltx_model.specs.StoredRows.{cell_of}
-use Rattle.ltx_model.specs.Operations.{Transaction, operations, cell_of_write, writes_key, writes_of}
+use Rattle.ltx_model.specs.Operations.{cell_of_write, writes_of}
 use Rattle.ltx_model.specs.Rows.{rows_after_all, rows_after_put, rows_after_writes}
-use Rattle.ltx_lemmas.proofs.Lists.{all_map, all_push, some_same}
+use Rattle.ltx_lemmas.proofs.Lists.{all_map, all_push}
 use Rattle.ltx_model.proofs.CellOrder.{same_cell_same}
-use Rattle.ltx_model.proofs.ItemsAt.{item_at-is}
 use Rattle.ltx_model.proofs.Rising.{item_at-above}
 use Rattle.ltx_lemmas.proofs.LastWrites.{last_writes_give}
 use Rattle.ltx_buffer.specs.Own.{write_at}
-use Rattle.ltx_buffer.proofs.Keys.{is_own}
 use Rattle.ltx_chain.specs.declared.chain.Version.{Version}
-use Rattle.ltx_chain.specs.Versions.{Versions, AreBelow, latest}
-use Rattle.ltx_chain.proofs.Seen.{latest-append}
+use Rattle.ltx_chain.specs.Versions.{Versions, AreBelow}
 use Rattle.ltx_store.specs.Kept.{Kept, chain_at, items_of, room_of, installed, versions_at, room_at, rows_at, latest_rows, rows_with, row_of_write, with_version, AreUpTo}
 use Rattle.ltx_store.proofs.Changes.{chain_installed, above_up_to, up_to_more, up_to_installed}
 use Rattle.ltx_core.specs.Installed.{version_by, HasInstalled}
-use Rattle.ltx_core.specs.Stands.{HasMark, IsDeletion}
+use Rattle.ltx_core.specs.Stands.{HasMark}
 
 -- Of these writes the last ones are left to install, of keys that are as they were: with them the store is what it is to be.
 pub record IsLeft (old now : List Kept) (writer mark : ℕ) (writes rest : List Write) : Type 0 where
@@ -131,49 +128,6 @@ marks_installed rows old new commits writer mark writes marked done before q =
       by_write (Some w) =
           all_push (HasMark rows (commits ++ writer ∷ []) q) (versions_at old q) (record { writer = writer; mark = mark; put = w.put }) stay
           (inr (above, subst (λ k. slice_get (commits ++ writer ∷ []) k ≡ Some writer) place (got_last commits writer)))
-
--- A deletion is still the last write of its key after a transaction that does not write it.
-deletion_stays : (ts : List Transaction) (t : Transaction) (cell : Cell) (writer : ℕ) → writes_key (operations t) cell ≡ false → IsDeletion ts cell writer → IsDeletion (ts ++ t ∷ []) cell writer
-deletion_stays ts t cell writer apart d = record {
-  front = d.front;
-  tx = d.tx;
-  back = d.back ++ t ∷ [];
-  parts = ap (λ l. l ++ t ∷ []) d.parts ∙ append_assoc d.front (d.tx ∷ d.back) (t ∷ []);
-  number = d.number;
-  deletes = d.deletes;
-  last = all_push (λ u. writes_key (operations u) cell ≡ false) d.back t d.last apart;
-}
-
--- Each deletion at the newest mark is the last write of its key in the order, which has the transaction last.
-pub deletions_installed : (old new : List Kept) (ts : List Transaction) (t : Transaction) (writer mark : ℕ) (writes : List Write) → writes ≡ writes_of (operations t) → t.number ≡ writer
-    → HasInstalled old new writer mark writes
-    → ((cell : Cell) (v : Version) → latest (versions_at old cell) ≡ Some v → v.put ≡ None → IsDeletion ts cell v.writer)
-    → (cell : Cell) (v : Version) → latest (versions_at new cell) ≡ Some v → v.put ≡ None → IsDeletion (ts ++ t ∷ []) cell v.writer
-deletions_installed old new ts t writer mark writes own number done before q v last deletes = by_write (write_at writes q) refl where
-  own_at : write_at (writes_of (operations t)) q ≡ write_at writes q
-  own_at = ap (λ ws. write_at ws q) (sym own)
-
-  by_write : (o : Option Write) → write_at writes q ≡ o → IsDeletion (ts ++ t ∷ []) q v.writer
-  by_write None is =
-      let apart : writes_key (operations t) q ≡ false = sym (is_own (operations t) q) ∙ ap is_some (own_at ∙ is) in
-      let same : versions_at new q ≡ versions_at old q = done.versions q ∙ ap (λ o. versions_at old q ++ version_by writer mark o) is ∙ append-nil (versions_at old q) in
-      deletion_stays ts t q v.writer apart (before q v (sym (ap latest same) ∙ last) deletes)
-  by_write (Some w) is =
-      let made : Version = record { writer = writer; mark = mark; put = w.put } in
-      let newest : latest (versions_at new q) ≡ Some made = ap latest (done.versions q ∙ ap (λ o. versions_at old q ++ version_by writer mark o) is) ∙ latest-append (versions_at old q) made in
-      let this : made ≡ v = some_same (sym newest ∙ last) in
-      let none : w.put ≡ None = ap (λ u. u.put) this ∙ deletes in
-      let here : cell_of_write w ≡ q = item_at-is cell_of_write writes q w is in
-      let gone : w ≡ record { table = q.table; key = q.key; put = None } = λ i. record { table = (here i).table; key = (here i).key; put = none i } in
-      record {
-        front = ts;
-        tx = t;
-        back = [];
-        parts = refl;
-        number = number ∙ ap (λ u. u.writer) this;
-        deletes = own_at ∙ is ∙ ap Some gone;
-        last = tt;
-      }
 
 -- The latest rows are those after the transaction's operations.
 pub rows_installed : (old new : List Kept) (writer mark : ℕ) (writes : List Write) (ops : List Op) → writes ≡ writes_of ops → IsRising cell_of (latest_rows old) → HasInstalled old new writer mark writes

@@ -1,5 +1,5 @@
 -- The rows of a base in the store, while they are loaded.
-use Rattle.std.proofs.Common.{◌≡◌, Bool, true, false, List, [], ◌∷◌, ◌++◌, Some, None, Option, refl, sym, ap, ◌∙◌, subst, append_assoc}
+use Rattle.std.proofs.Common.{◌≡◌, Bool, true, false, cond, option_map, List, [], ◌∷◌, ◌++◌, Some, None, Option, refl, sym, ap, ◌∙◌, subst, append_assoc}
 use Rattle.std.specs.List.{AllByRecursion}
 use Rattle.std.specs.Ordering.{is_eq}
 use Rattle.std.specs.declared.cmp.Ordering.TheVariants.{Less}
@@ -11,7 +11,9 @@ use Rattle.ltx_model.proofs.CellOrder.{same_cell_refl, same_cell_same, cell_turn
 use Rattle.ltx_chain.specs.declared.chain.Version.{Version}
 use Rattle.ltx_chain.specs.Versions.{latest}
 use Rattle.ltx_store.specs.Kept.{Kept, items_of, versions_at, latest_rows, AreUpTo, HasLoaded}
-use Rattle.ltx_core.specs.Stands.{IsOfBase}
+use Rattle.ltx_model.specs.LastWrites.{made_before}
+use Rattle.ltx_model.proofs.RowsAt.{row_at-put}
+use Rattle.ltx_core.specs.Stands.{IsOfBase, write_seen}
 
 -- The last ones of these rows are left to load, of keys without versions; the others are the latest rows.
 pub record IsLoading (store : List Kept) (rows rest : List StoredRow) : Type 0 where
@@ -20,6 +22,7 @@ pub record IsLoading (store : List Kept) (rows rest : List StoredRow) : Type 0 w
   pub absent : AllByRecursion (λ row. versions_at store (cell_of row) ≡ []) rest
   pub marks : AreUpTo 0 store
   pub firsts : (cell : Cell) → AllByRecursion (IsOfBase rows cell) (versions_at store cell)
+  pub written : (cell : Cell) → write_seen (latest (versions_at store cell)) ≡ option_map made_before (row_at (latest_rows store) cell)
 
 -- at first all are left
 pub all_left : (store : List Kept) (rows : List StoredRow) → store ≡ [] → IsRising cell_of rows → IsLoading store rows rows
@@ -29,6 +32,7 @@ all_left store rows empty rising = subst (λ s. IsLoading s rows rows) (sym empt
   absent = none rows;
   marks = tt;
   firsts = λ q. tt;
+  written = λ q. refl;
 }) where
   none : (rs : List StoredRow) → AllByRecursion (λ row. versions_at [] (cell_of row) ≡ []) rs
   none [] = tt
@@ -61,7 +65,15 @@ one_loaded store new rows row rest before done = record {
   absent = still rest (rising_back (latest_rows store) (row ∷ rest) rises).0 before.absent.1;
   marks = done.marks 0 before.marks;
   firsts = λ q. by_test q (same_cell (cell_of row) q) refl;
+  written = λ q. last_of q (same_cell (cell_of row) q) refl ∙ sym (ap (λ rs. option_map made_before (row_at rs q)) done.latest ∙ ap (option_map made_before) (row_at-put row (latest_rows store) q));
 } where
+  last_of : (q : Cell) (b : Bool) → same_cell (cell_of row) q ≡ b → write_seen (latest (versions_at new q)) ≡ option_map made_before (cond (same_cell (cell_of row) q) (Some row) (row_at (latest_rows store) q))
+  last_of q true same =
+      ap (λ c. write_seen (latest (versions_at new c))) (sym (same_cell_same (cell_of row) q same)) ∙ ap (λ vs. write_seen (latest vs)) done.here
+      ∙ sym (ap (λ b. option_map made_before (cond b (Some row) (row_at (latest_rows store) q))) same)
+  last_of q false apart =
+      ap (λ o. write_seen (latest (items_of o))) (done.others q apart) ∙ before.written q ∙ sym (ap (λ b. option_map made_before (cond b (Some row) (row_at (latest_rows store) q))) apart)
+
   rises : IsRising cell_of (latest_rows store ++ row ∷ rest)
   rises = subst (IsRising cell_of) (sym before.loaded) before.rising
 

@@ -1,44 +1,112 @@
--- A new core stands for its base, and what a core tells of its sessions.
-use Rattle.std.proofs.Common.{◌≡◌, inl, ℕ, ◌+◌, Bool, List, [], Option, Some, None, is_some, refl, sym, ap, ◌∙◌, subst}
-use Rattle.std.specs.List.{find, AllByRecursion}
+-- A new core stands for its base, and what a core tells of its sessions and of the order.
+use Rattle.std.proofs.Common.{◌≡◌, inl, ℕ, ◌+◌, ◌≤◌, ◌<◌, Bool, not, List, [], ◌∷◌, map, filter, length, Option, Some, None, option_map, is_some, refl, sym, ap, ◌∙◌, subst, arith}
+use Rattle.std.specs.List.{AllByRecursion}
 use Rattle.ltx_model.specs.declared.replies.Entry.{Entry}
 use Rattle.ltx_model.specs.Keys.{Cell}
-use Rattle.ltx_model.specs.States.{Active, Base, State, first_state, is_of, active_of}
+use Rattle.ltx_model.specs.LastWrites.{made_before}
+use Rattle.ltx_model.specs.Restored.{Restored, IsRestored}
+use Rattle.ltx_model.specs.Agenda.{Member, LiveSlot, Committed, number_of, serial}
+use Rattle.ltx_model.specs.Holders.{Holder, is_entered}
+use Rattle.ltx_model.specs.States.{Base, State, base_of, first_state, active_of, order}
 use Rattle.ltx_model.specs.Histories.{state}
-use Rattle.ltx_model.proofs.OneMore.{run-none, state-none}
-use Rattle.ltx_lemmas.proofs.Lists.{all_map, none_some}
-use Rattle.ltx_store.specs.Kept.{versions_at, latest_rows}
-use Rattle.ltx_core.specs.Views.{OpenView, Counters, CoreView}
+use Rattle.ltx_model.proofs.OneMore.{run-none, state-none, legal-none}
+use Rattle.ltx_model.specs.StoredRows.{row_at}
+use Rattle.ltx_model.specs.Lists.{IsPairwise}
+use Rattle.ltx_model.specs.Records.{Records, IsRecordOf, AreRecordsOf}
+use Rattle.ltx_lemmas.proofs.Lists.{all_map, contains_none}
+use Rattle.ltx_chain.specs.Versions as versions
+use Rattle.ltx_store.specs.Kept.{versions_at, latest_rows, AreUpTo}
+use Rattle.ltx_core.specs.Built.{built}
+use Rattle.ltx_model.specs.Limits.{last_durable, last_number}
+use Rattle.ltx_core.specs.Views.{OpenView, CoreView, pending, IsWithin}
 use Rattle.ltx_core.specs.Slots.{opened}
-use Rattle.ltx_core.specs.Stands.{IsOfBase, HasMark, StandsAt, StandsFor}
-use Rattle.ltx_core.proofs.Loaded.{all_latest}
-use Rattle.ltx_core.proofs.OpensKept.{opens_none, FoundOpen, opens_some}
+use Rattle.ltx_core.specs.Stands.{IsOfBase, HasMark, IsSlotOf, write_seen, ground, StandsAt, StandsFor}
+use Rattle.ltx_core.specs.Steps.{IsCore}
+use Rattle.ltx_core.proofs.LastSeen.{last_none}
+use Rattle.ltx_core.proofs.OpensKept.{opens_none, opens_some}
+
+-- the records of nothing
+records_new : (base : Base) (r : Records) → r.kept ≡ [] → r.commits ≡ 0 → AreRecordsOf (first_state base) r
+records_new base r kept commits = record {
+  commits = commits;
+  told = subst (AllByRecursion (IsRecordOf (first_state base))) (sym kept) tt;
+  rising = subst (IsPairwise (λ a b. a.mark < b.mark)) (sym kept) tt;
+  whole = λ t there. absurd (contains_none t there);
+}
 
 -- a new core
-pub new_stands : (base : Base) (core : CoreView) → latest_rows core.store ≡ base.rows → ((cell : Cell) → AllByRecursion (IsOfBase base.rows cell) (versions_at core.store cell))
-    → core.order ≡ [] → core.commits ≡ 0 → core.opens ≡ [] → core.counters.epoch ≡ base.durable + 1 → core.counters.durable ≡ base.durable → core.counters.last ≡ base.last → StandsFor core base []
-new_stands base core rows firsts order commits opens epoch durable last =
-    let first : StandsAt core base [] (first_state base) = record {
+pub new_core : (r : Restored) (core : CoreView) → IsRestored r → latest_rows core.store ≡ r.rows → ((cell : Cell) → AllByRecursion (IsOfBase r.rows cell) (versions_at core.store cell))
+    → ((cell : Cell) → write_seen (versions.latest (versions_at core.store cell)) ≡ option_map made_before (row_at r.rows cell))
+    → core.list ≡ [] → core.commits ≡ 0 → core.batch ≡ 0 → core.preserve ≡ [] → core.opens ≡ [] → core.records.kept ≡ [] → core.records.commits ≡ 0 → core.areas ≡ [] → core.counters.epoch ≡ r.epoch + 1 → core.counters.durable ≡ r.epoch → core.counters.last ≡ r.last
+    → (gate : ℕ) → StandsFor core (base_of r gate) []
+new_core r core restored rows firsts written list commits batch preserve opens kept noted areas epoch durable last gate =
+    let base : Base = base_of r gate in
+    let first : StandsAt core (first_state base) = record {
       counters = λ i. record { epoch = epoch i; durable = durable i; last = last i };
-      order = record { members_are = order; count_is = commits };
+      agenda = record {
+        list_is = list;
+        count_is = commits;
+        batch_within = subst (λ n. n ≤ core.commits) (sym batch) (omega arith);
+        slots = tt;
+      };
+      holders = preserve;
       store = record {
-        rows = rows ∙ sym (run-none base.rows);
-        deletions = λ cell v is deletes. absurd (none_some (sym deletes ∙ (all_latest (IsOfBase base.rows cell) (versions_at core.store cell) v (firsts cell) is).puts));
-        marks = λ cell. all_map (IsOfBase base.rows cell) (HasMark base.rows [] cell) (λ v first. inl first) (versions_at core.store cell) (firsts cell);
+        rows = rows ∙ sym (run-none r.rows);
+        written = λ cell. written cell ∙ sym (last_none r.rows cell);
+        marks = λ cell. all_map (IsOfBase r.rows cell) (HasMark r.rows [] cell) (λ v first. inl first) (versions_at core.store cell) (firsts cell);
       };
       opens = record { found = tt; others = λ session none. ap (λ slots. opened slots session) opens; apart = tt };
+      records = records_new base core.records kept noted;
+      areas = areas;
     } in
-    subst (StandsAt core base []) (sym (state-none (first_state base))) first
+    subst (StandsAt core) (sym (state-none (first_state base))) first
+
+-- its numbers
+pub new_within : (r : Restored) (core : CoreView) → IsRestored r → AreUpTo core.commits core.store → core.list ≡ [] → core.room ≡ 0 → core.preserve ≡ [] → core.counters.epoch ≡ r.epoch + 1 → core.counters.last ≡ r.last
+    → IsWithin core
+new_within r core restored marks list room preserve epoch last =
+    let none : pending core.preserve ≡ 0 = ap pending preserve in
+    let empty : length core.list ≡ 0 = ap length list in
+    let durable : r.epoch ≤ last_durable = restored.epoch in
+    let bound : r.last ≤ last_number = restored.last in
+    record {
+      marks = marks;
+      room = omega arith;
+      listed = omega arith;
+      epoch_bound = omega arith;
+      last_bound = omega arith;
+    }
+
+pub new_is_core : (r : Restored) (core : CoreView) → IsRestored r → ((gate : ℕ) → StandsFor core (base_of r gate) []) → IsWithin core → IsCore core
+new_is_core r core restored stands within = record {
+  within = within;
+  standing = record {
+    base = base_of r 0;
+    history = [];
+    sound = record { rising = restored.rising; writers = restored.writers; durable = restored.epoch; last = restored.last };
+    legal = legal-none built (first_state (base_of r 0));
+    stands = stands 0;
+  };
+}
 
 -- whether a session has an open transaction
-tells : (core : CoreView) (session : ℕ) (o : Option OpenView) → o ≡ opened core.opens session → (base : Base) (history : List Entry) → StandsFor core base history
-    → is_some o ≡ is_some (active_of (state base history) session)
-tells core session None is base history stands =
-    ap is_some (sym (opens_none core.store core.commits base history core.opens (state base history).active stands.opens session (sym is)))
-tells core session (Some a) is base history stands =
-    ap is_some (sym (opens_some core.store core.commits base history core.opens (state base history).active stands.opens session a (sym is)).found)
+tells : (core : CoreView) (session : ℕ) (o : Option OpenView) → o ≡ opened core.opens session → (s : State) → StandsAt core s → is_some o ≡ is_some (active_of s session)
+tells core session None is s stands = ap is_some (sym (opens_none (ground core s) core.opens s.active stands.opens session (sym is)))
+tells core session (Some a) is s stands = ap is_some (sym (opens_some (ground core s) core.opens s.active stands.opens session a (sym is)).found)
 
 pub has_tells : (v core : CoreView) → v ≡ core → (session : ℕ) (b : Bool) → b ≡ is_some (opened v.opens session) → (base : Base) (history : List Entry) → StandsFor core base history
     → b ≡ is_some (active_of (state base history) session)
 has_tells v core same session b is base history stands =
-    is ∙ ap (λ (u : CoreView). is_some (opened u.opens session)) same ∙ tells core session (opened core.opens session) refl base history stands
+    is ∙ ap (λ (u : CoreView). is_some (opened u.opens session)) same ∙ tells core session (opened core.opens session) refl (state base history) stands
+
+-- the numbers without those of slots are the order
+without_slots : (holders : List Holder) (ms : List Member) → AllByRecursion (IsSlotOf holders) ms → filter (λ n. not (is_entered holders n)) (map number_of ms) ≡ map (λ t. t.number) (serial ms)
+without_slots holders [] all = refl
+without_slots holders (LiveSlot n ∷ ms) all = rw all.0 (without_slots holders ms all.1)
+without_slots holders (Committed t ∷ ms) all = rw all.0 (ap (λ ns. t.number ∷ ns) (without_slots holders ms all.1))
+
+pub order_tells : (v core : CoreView) → v ≡ core → (numbers : List ℕ) → numbers ≡ filter (λ n. not (is_entered v.preserve n)) v.list → (base : Base) (history : List Entry) → StandsFor core base history
+    → numbers ≡ order (state base history)
+order_tells v core same numbers is base history stands =
+    is ∙ ap (λ (u : CoreView). filter (λ n. not (is_entered u.preserve n)) u.list) same
+    ∙ ap (filter (λ n. not (is_entered core.preserve n))) stands.agenda.list_is ∙ without_slots core.preserve (state base history).agenda stands.agenda.slots

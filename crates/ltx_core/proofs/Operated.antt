@@ -1,8 +1,9 @@
--- An operation of a session's open transaction: what it is answered, and the core then stands for one entry more.
-use Rattle.std.proofs.Common.{◌≡◌, ℕ, ◌+◌, ◌<◌, ◌≤◌, true, false, List, [], ◌∷◌, ◌++◌, map, length, Option, Some, None, append-nil, append_assoc, refl, sym, ap, ◌∙◌, subst}
-use Rattle.std.specs.List.{AllByRecursion}
+-- An operation of a session's open transaction: what it is answered, and what it leaves.
+use Rattle.std.proofs.Common.{◌≡◌, ℕ, ◌+◌, ◌<◌, ◌≤◌, nat_le, Result, IfOk, OnErr, Bool, true, false, cond, List, [], ◌∷◌, ◌++◌, map, length, Option, Some, None, append-nil, append_assoc, refl, sym, ap, ◌∙◌, subst}
+use Rattle.std.specs.List.{cons_option}
+use Rattle.std.specs.Option.{option_map}
 use Rattle.std.proofs.lemmas.List.{map-append}
-use Rattle.std.proofs.lemmas.Bool.{le-leb, lt-leb}
+use Rattle.std.proofs.lemmas.Bool.{le-leb, lt-leb, leb-true, leb-false}
 use Rattle.ltx_model.specs.declared.commands.Op.{Op}
 use Rattle.ltx_model.specs.declared.commands.Op.TheVariants.{Get, Scan, Put, Del}
 use Rattle.ltx_model.specs.declared.commands.Verb.TheVariants as verbs
@@ -16,52 +17,66 @@ use Rattle.ltx_model.specs.declared.replies.Reply.{Reply}
 use Rattle.ltx_model.specs.declared.replies.Reply.TheVariants as replies
 use Rattle.ltx_model.specs.declared.rows.StoredRow.{StoredRow}
 use Rattle.ltx_model.specs.declared.writes.Look.{Look}
-use Rattle.ltx_model.specs.Lists.{numbered_from, change_first}
+use Rattle.ltx_model.specs.Lists.{numbered, numbered_from, change_first}
 use Rattle.ltx_model.specs.Keys.{Cell, IsRising}
 use Rattle.ltx_model.specs.StoredRows.{cell_of, row_at}
+use Rattle.ltx_model.specs.Tables.{has_table}
 use Rattle.ltx_model.specs.Operations.{operations, table_of, put_write, write_of, writes_of}
-use Rattle.ltx_model.specs.Rows.{rows_after_all, reply_on, found, see}
+use Rattle.ltx_model.specs.Rows.{rows_after_all, reply_on, found, see, run}
+use Rattle.ltx_model.specs.LastWrites.{LastWrite, last_write}
 use Rattle.ltx_model.specs.Agenda.{serial}
-use Rattle.ltx_model.specs.Notes.{IsNote, AreNotesOf, AreNotes}
-use Rattle.ltx_model.specs.States.{IsShort, Step, Active, Base, IsSound, State, first_state, answered_of, transaction_of, is_of, active_of, latest}
-use Rattle.ltx_model.specs.Histories.{answered, with_step, reply_changes, after, state}
-use Rattle.ltx_model.specs.Answers.{operation, operation_in, operation_of_short, counted, is_full, command_reply, answer}
+use Rattle.ltx_model.specs.Notes.{IsNoteBy, AreNotesBy}
+use Rattle.ltx_model.specs.Decisions.{IsAskedLook}
+use Rattle.ltx_model.specs.States.{Kind, IsShort, IsPending, IsLive, Declaration, Step, Active, Base, IsSound, State, answered_of, transaction_of, is_of, active_of, latest, live_batches}
+use Rattle.ltx_model.specs.Shorts.{holder}
+use Rattle.ltx_model.specs.Holders.{IsLeastHolder, IsHeldBy, holder_of, holders_of}
+use Rattle.ltx_model.specs.Histories.{answered, with_step, ended, reply_changes, to_active, state}
+use Rattle.ltx_model.specs.Answers.{operation, operation_in, operation_of_short, operation_of_batch, counted, is_full, unless_in, refusal, staged, IsLegalWith}
 use Rattle.ltx_model.specs.Limits.{most_operations}
-use Rattle.ltx_model.proofs.OneMore.{state-push, after-is, see-is}
-use Rattle.ltx_lemmas.proofs.Lists.{all_map, all_push, all_find, change_find}
+use Rattle.ltx_model.proofs.OneMore.{see-is}
+use Rattle.ltx_lemmas.proofs.Lists.{all_push, some_same, none_some, true_false}
+use Rattle.ltx_laws.specs.Structure.{Structure}
+use Rattle.ltx_laws.proofs.HolderStates.{least_is_held, held_is_least}
+use Rattle.ltx_laws.proofs.Structures.{structure_of}
+use Rattle.ltx_laws.proofs.WitnessHolders.{AreRising, live_rising, holder_held, held_holder}
 use Rattle.ltx_buffer.proofs.Merges.{writes_of-push}
+use Rattle.ltx_chain.proofs.Seen.{visible_latest}
+use Rattle.ltx_chain.specs.Versions.{visible}
 use Rattle.ltx_store.specs.Kept.{rows_at, AreUpTo, versions_at}
 use Rattle.ltx_store.proofs.Changes.{latest_at, up_to_items}
-use Rattle.ltx_chain.specs.Versions as versions
-use Rattle.ltx_chain.proofs.Seen.{visible_latest}
-use Rattle.ltx_core.specs.Views.{OpenView, CoreView}
+use Rattle.ltx_core.specs.declared.stage.Declared.{Declared}
+use Rattle.ltx_core.specs.declared.stage.Stage.{Stage}
+use Rattle.ltx_core.specs.declared.stage.Stage.TheVariants as stages
+use Rattle.ltx_core.specs.Built.{built}
+use Rattle.ltx_core.specs.Views.{OpenView, CoreView, declaration, IsWithin}
 use Rattle.ltx_core.specs.Slots.{opened, HasAt}
-use Rattle.ltx_core.specs.Operations.{looks_in, IsDeleted, IsToldBy, HasDone, HasMore}
-use Rattle.ltx_core.specs.Stands.{IsDeletion, IsTold, AreToldOf, AreTold, AreMarked, IsOpen, HasOpens, StandsAt, StandsFor}
-use Rattle.ltx_core.specs.Steps.{IsStep}
+use Rattle.ltx_core.specs.Operations.{IsSeenLook, HasDone, HasMore}
+use Rattle.ltx_core.specs.Same.{AreSameOpens, IsSame}
+use Rattle.ltx_core.specs.Stands.{Ground, ground, everybody, write_seen, AreMarked, IsShortOpen, IsLiveOpen, IsOfKind, IsOpen, batches_of, StandsAt, StandsFor, IsStanding}
+use Rattle.ltx_core.specs.Steps.{IsStep, Steps, IsCore}
+use Rattle.ltx_core.proofs.LiveAreas.{areas_stepped}
+use Rattle.ltx_core.proofs.RecordsKept.{records_answered}
+use Rattle.ltx_core.proofs.CoreSteps.{core_step_from, core_same_from}
+use Rattle.ltx_core.proofs.Ended.{none_open, some_open, left_core, with_opens, same_but_opens, ended_stands}
+use Rattle.ltx_core.proofs.LastSeen.{seen_is_asked, note_so}
 use Rattle.ltx_core.proofs.MarkedNotes.{marks_push}
-use Rattle.ltx_core.proofs.OpensKept.{opens_none, FoundOpen, opens_some, opens_changed, opens_longer, open_longer, opens_shorts, full_is}
+use Rattle.ltx_core.proofs.OpensKept.{as_short, as_pending, as_live_open, FoundLive, FoundOpen, opens_changed, full_is}
+use Rattle.ltx_core.proofs.Results.{if_both_ok, by_result}
 use Rattle.ltx_core.proofs.RisingRows.{latest_rising}
-use Rattle.ltx_core.proofs.ShortsAlone.{no_holder}
-use Rattle.ltx_core.proofs.StandsStill.{stands_after, quiet}
+use Rattle.ltx_core.proofs.StandsStill.{staged_is, leads, stays, same_core}
 
-abbrev pub asks : ℕ → Op → Line
-asks session op = lines.Good (commands.Ask session (verbs.Do op))
+abbrev pub asks : ℕ → Op → Command
+asks session op = commands.Ask session (verbs.Do op)
 
--- what a state answers
-command_answer : (s : State) (command : Command) → answer s (lines.Good command) ≡ command_reply s command
-unfolding answer
-command_answer s command = refl
-
-answer_none : (s : State) (session : ℕ) (op : Op) → active_of s session ≡ None → answer s (asks session op) ≡ replies.NoTx
-answer_none s session op none = command_answer s (commands.Ask session (verbs.Do op)) ∙ ap (λ o. operation s o op) none
-
-answer_counted : (s : State) (session : ℕ) (op : Op) (o : Active) → AllByRecursion (λ u. u.kind ≡ IsShort) s.active → active_of s session ≡ Some o
-    → answer s (asks session op) ≡ counted (is_full (transaction_of o)) (latest s) (transaction_of o) op
-answer_counted s session op o shorts is =
-    command_answer s (commands.Ask session (verbs.Do op)) ∙ ap (λ u. operation s u op) is
-    ∙ ap (λ k. operation_in s k (transaction_of o) op) (all_find (λ u. u.kind ≡ IsShort) (is_of session) s.active o shorts is)
-    ∙ ap (λ h. operation_of_short s h (transaction_of o) op) (no_holder s shorts (table_of op))
+-- the least holder is the first live batch that holds the table
+holder_is : (s : State) → AreRising (live_batches s) → (table : ℕ) (r : Option ℕ) → IsHeldBy (holders_of s) table r → holder s table ≡ r
+holder_is s rising table (Some n) held = held_holder s rising table n (least_is_held s table n held)
+holder_is s rising table None held = by_holder (holder s table) refl where
+  by_holder : (o : Option ℕ) → holder s table ≡ o → o ≡ None
+  by_holder None is = refl
+  by_holder (Some n) is =
+      let least : IsLeastHolder (holders_of s) table n = held_is_least s table n (holder_held s rising table n is) in
+      absurd (true_false (sym least.holds ∙ held least.holder least.here))
 
 -- the operations of a transaction's steps
 ops_answered : (steps : List Step) → map (λ a. a.op) (map answered_of steps) ≡ map (λ b. b.op) steps
@@ -69,171 +84,316 @@ ops_answered [] = refl
 ops_answered (b ∷ bs) = ap (λ l. b.op ∷ l) (ops_answered bs)
 
 -- what a reply to an operation changes: it is added to the session's transaction
-answers : (s : State) (session : ℕ) (op : Op) (rows : List StoredRow) → reply_changes s (asks session op) (reply_on rows op) ≡ answered s op (reply_on rows op) session
+answers : (s : State) (session : ℕ) (op : Op) (rows : List StoredRow) → reply_changes s (lines.Good (asks session op)) (reply_on rows op) ≡ answered s op (reply_on rows op) session
 answers s session (Get table key) rows = by_row (row_at rows (record { table = table; key = key })) where
-  by_row : (r : Option StoredRow) → reply_changes s (asks session (Get table key)) (found r) ≡ answered s (Get table key) (found r) session
+  by_row : (r : Option StoredRow) → reply_changes s (lines.Good (asks session (Get table key))) (found r) ≡ answered s (Get table key) (found r) session
   by_row None = refl
   by_row (Some row) = refl
 answers s session (Scan table low high) rows = refl
 answers s session (Put table key value) rows = refl
 answers s session (Del table key) rows = refl
 
-after_seen : (s : State) (session : ℕ) (op : Op) (tx : ℕ) (rows : List StoredRow) (ops : List Op) (reply : Reply) → reply ≡ see tx rows ops op
-    → after s (record { line = asks session op; reply = reply }) ≡ answered s op reply session
-after_seen s session op tx rows ops reply is =
+seen_changes : (s : State) (session : ℕ) (op : Op) (tx : ℕ) (rows : List StoredRow) (ops : List Op) (reply : Reply) → reply ≡ see tx rows ops op → reply_changes s (lines.Good (asks session op)) reply ≡ answered s op reply session
+seen_changes s session op tx rows ops reply is =
     let on : reply ≡ reply_on (rows_after_all tx rows ops) op = is ∙ see-is tx rows ops op in
-    after-is s (asks session op) reply
-    ∙ subst (λ r. reply_changes s (asks session op) r ≡ answered s op r session) (sym on) (answers s session op (rows_after_all tx rows ops))
+    subst (λ r. reply_changes s (lines.Good (asks session op)) r ≡ answered s op r session) (sym on) (answers s session op (rows_after_all tx rows ops))
+
+-- a refusal changes nothing
+unless_quiet : (s : State) (line : Line) (b : Bool) (r reply : Reply) → reply_changes s line r ≡ s → unless_in b r ≡ Some reply → reply_changes s line reply ≡ s
+unless_quiet s line true r reply quiet is = absurd (none_some is)
+unless_quiet s line false r reply quiet is = ap (reply_changes s line) (sym (some_same is)) ∙ quiet
+
+refusal_quiet : (s : State) (session : ℕ) (op : Op) (d : Declaration) (reply : Reply) → refusal d op ≡ Some reply → reply_changes s (lines.Good (asks session op)) reply ≡ s
+refusal_quiet s session (Get table key) d reply is = unless_quiet s (lines.Good (asks session (Get table key))) (has_table d.reads table) (replies.Outside table) reply refl is
+refusal_quiet s session (Scan table low high) d reply is = unless_quiet s (lines.Good (asks session (Scan table low high))) (has_table d.reads table) (replies.Outside table) reply refl is
+refusal_quiet s session (Put table key value) d reply is = unless_quiet s (lines.Good (asks session (Put table key value))) (has_table d.writes table) (replies.NotPreserved table) reply refl is
+refusal_quiet s session (Del table key) d reply is = unless_quiet s (lines.Good (asks session (Del table key))) (has_table d.writes table) (replies.NotPreserved table) reply refl is
+
+-- a step more leaves the batches as they are
+batches_stepped : (test : Active → Bool) (step : Step) (os : List Active) → batches_of (change_first test (with_step step) os) ≡ batches_of os
+batches_stepped test step [] = refl
+batches_stepped test step (o ∷ os) = by_test (test o) (batches_stepped test step os) where
+  by_test : (b : Bool) → batches_of (change_first test (with_step step) os) ≡ batches_of os → batches_of (cond b (with_step step o ∷ os) (o ∷ change_first test (with_step step) os)) ≡ batches_of (o ∷ os)
+  by_test true later = refl
+  by_test false later = ap (cons_option (holder_of o.kind o.number)) later
 
 -- one step more, with its note
-notes_more : (n : ℕ) (earlier steps : List Step) (notes : List Noted) (b : Step) (note : Noted) → AreNotesOf (numbered_from n earlier steps) notes
-    → IsNote b.latest (map (λ d. d.op) (earlier ++ steps)) b.op note → AreNotesOf (numbered_from n earlier (steps ++ b ∷ [])) (notes ++ note ∷ [])
-notes_more n earlier [] [] b note are is = (subst (λ (l : List Step). IsNote b.latest (map (λ d. d.op) l) b.op note) (append-nil earlier) is, tt)
-notes_more n earlier [] (m ∷ ms) b note are is = absurd are
-notes_more n earlier (c ∷ cs) [] b note are is = absurd are
-notes_more n earlier (c ∷ cs) (m ∷ ms) b note are is =
-    (are.0, notes_more (n + 1) (earlier ++ c ∷ []) cs ms b note are.1 (subst (λ (l : List Step). IsNote b.latest (map (λ d. d.op) l) b.op note) (sym (append_assoc earlier (c ∷ []) cs)) is))
+module _ (tells : Step → Cell → Option Look → Type 0) (b : Step) (note : Noted) where
+  notes_more : (n : ℕ) (earlier steps : List Step) (notes : List Noted) → AreNotesBy tells (numbered_from n earlier steps) notes → IsNoteBy (tells b) (map (λ d. d.op) (earlier ++ steps)) b.op note
+      → AreNotesBy tells (numbered_from n earlier (steps ++ b ∷ [])) (notes ++ note ∷ [])
+  notes_more n earlier [] [] are is = (subst (λ (l : List Step). IsNoteBy (tells b) (map (λ d. d.op) l) b.op note) (append-nil earlier) is, tt)
+  notes_more n earlier [] (m ∷ ms) are is = absurd are
+  notes_more n earlier (c ∷ cs) [] are is = absurd are
+  notes_more n earlier (c ∷ cs) (m ∷ ms) are is =
+      (are.0, notes_more (n + 1) (earlier ++ c ∷ []) cs ms are.1 (subst (λ (l : List Step). IsNoteBy (tells b) (map (λ d. d.op) l) b.op note) (sym (append_assoc earlier (c ∷ []) cs)) is))
 
-notes_push : (steps : List Step) (notes : List Noted) (b : Step) (note : Noted) → AreNotes steps notes → IsNote b.latest (map (λ d. d.op) steps) b.op note → AreNotes (steps ++ b ∷ []) (notes ++ note ∷ [])
-notes_push steps notes b note are is = notes_more 1 [] steps notes b note are is
-
-told_more : (base : Base) (history : List Entry) (number n : ℕ) (earlier steps : List Step) (notes : List Noted) (b : Step) (note : Noted) → AreToldOf base history number (numbered_from n earlier steps) notes
-    → AllByRecursion (IsTold base history number (earlier ++ steps) b note.table) (looks_in note.reach) → AreToldOf base history number (numbered_from n earlier (steps ++ b ∷ [])) (notes ++ note ∷ [])
-told_more base history number n earlier [] [] b note told is =
-    (subst (λ (l : List Step). AllByRecursion (IsTold base history number l b note.table) (looks_in note.reach)) (append-nil earlier) is, tt)
-told_more base history number n earlier [] (m ∷ ms) b note told is = absurd told
-told_more base history number n earlier (c ∷ cs) [] b note told is = absurd told
-told_more base history number n earlier (c ∷ cs) (m ∷ ms) b note told is = (
-  told.0,
-  told_more base history number (n + 1) (earlier ++ c ∷ []) cs ms b note told.1
-      (subst (λ (l : List Step). AllByRecursion (IsTold base history number l b note.table) (looks_in note.reach)) (sym (append_assoc earlier (c ∷ []) cs)) is),
-)
-
-told_push : (base : Base) (history : List Entry) (number : ℕ) (steps : List Step) (notes : List Noted) (b : Step) (note : Noted) → AreTold base history number steps notes
-    → AllByRecursion (IsTold base history number steps b note.table) (looks_in note.reach) → AreTold base history number (steps ++ b ∷ []) (notes ++ note ∷ [])
-told_push base history number steps notes b note told is = told_more base history number 1 [] steps notes b note told is
+  notes_push : (steps : List Step) (notes : List Noted) → AreNotesBy tells (numbered steps) notes → IsNoteBy (tells b) (map (λ d. d.op) steps) b.op note → AreNotesBy tells (numbered (steps ++ b ∷ [])) (notes ++ note ∷ [])
+  notes_push steps notes are is = notes_more 1 [] steps notes are is
 
 -- An operation of a session at a core that stands for a history.
-module _ (old : CoreView) (up_to : AreUpTo old.commits old.store) (session : ℕ) (op : Op) (base : Base) (history : List Entry) (sound : IsSound base) (stands : StandsFor old base history) where
+module _ (old : CoreView) (session : ℕ) (op : Op) (base : Base) (history : List Entry) (sound : IsSound base) (legal : IsLegalWith built base history) (stands : StandsFor old base history) where
   abbrev s : State
   s = state base history
 
-  rising : IsRising cell_of (latest s)
-  rising = latest_rising base history sound
+  abbrev g : Ground
+  g = ground old s
 
-  -- the rows at the newest mark are the latest ones
-  newest : rows_at old.commits old.store ≡ latest s
-  newest = latest_at old.commits old.store up_to ∙ stands.store.rows
-
-  none_open : opened old.opens session ≡ None → active_of s session ≡ None
-  none_open none = opens_none old.store old.commits base history old.opens s.active stands.opens session none
-
-  some_open : (a : OpenView) → opened old.opens session ≡ Some a → FoundOpen old.store old.commits base history old.opens s.active stands.opens session a
-  some_open a some = opens_some old.store old.commits base history old.opens s.active stands.opens session a some
-
-  answered_so : (o : Active) → active_of s session ≡ Some o → answer s (asks session op) ≡ counted (is_full (transaction_of o)) (latest s) (transaction_of o) op
-  answered_so o there = answer_counted s session op o (opens_shorts old.store old.commits base history old.opens s.active stands.opens) there
+  shape : Structure base s
+  shape = structure_of built base history legal
 
   -- the session has no open transaction
-  pub operated_none : opened old.opens session ≡ None → IsStep old base history (asks session op) replies.NoTx
-  operated_none none = record {
-    reply_is = sym (answer_none s session op (none_open none));
-    stands = quiet old base history (record { line = asks session op; reply = replies.NoTx }) (after-is s (asks session op) replies.NoTx) stands;
-  }
+  pub operated_none : opened old.opens session ≡ None → IsStep old base history (lines.Good (asks session op)) replies.NoTx
+  operated_none none =
+      stays old old (asks session op) replies.NoTx base history (same_core old old refl) stands replies.NoTx
+      (ap (λ u. operation s u op) (sym (none_open old session s stands none)) ∙ staged_is s (asks session op)) refl refl
 
-  -- its transaction has as many operations as it may have
-  pub operated_full : (a : OpenView) → opened old.opens session ≡ Some a → most_operations ≤ length a.notes.notes → IsStep old base history (asks session op) replies.LimitOps
-  operated_full a here full =
-      let f = some_open a here in
-      let is : is_full (transaction_of f.open_tx) ≡ true = sym (full_is old.store old.commits base history f.open_tx a f.is_open) ∙ le-leb most_operations (length a.notes.notes) full in
-      record {
-        reply_is = sym (answered_so f.open_tx f.found ∙ ap (λ b. counted b (latest s) (transaction_of f.open_tx) op) is);
-        stands = quiet old base history (record { line = asks session op; reply = replies.LimitOps }) (after-is s (asks session op) replies.LimitOps) stands;
+  module _ (a : OpenView) (here : opened old.opens session ≡ Some a) where
+    found_tx : FoundOpen g old.opens s.active stands.opens session a
+    found_tx = some_open old session s stands a here
+
+    abbrev o : Active
+    o = found_tx.open_tx
+
+    -- what the state answers, by what the transaction is
+    by_kind : (kind : Kind) → o.kind ≡ kind → operation_in s kind (transaction_of o) op ≡ staged built s (lines.Good (asks session op))
+    by_kind kind is =
+        ap (λ k. operation_in s k (transaction_of o) op) (sym is) ∙ ap (λ u. operation s u op) (sym found_tx.found) ∙ staged_is s (asks session op)
+
+    -- a pending batch
+    pub operated_pending : (e : Declared) → a.stage ≡ stages.Pending e → IsStep old base history (lines.Good (asks session op)) (replies.NotYet e.from)
+    operated_pending e is =
+        let pending : o.kind ≡ IsPending (declaration e) = (as_pending g _ _ a o.kind a.stage e is found_tx.is_open.kind).0 in
+        stays old old (asks session op) (replies.NotYet e.from) base history (same_core old old refl) stands (replies.NotYet e.from) (by_kind (IsPending (declaration e)) pending) refl refl
+
+    -- a short at a table that somebody holds
+    short_is : a.stage ≡ stages.Short → (o.kind ≡ IsShort) × IsShortOpen g o.steps a
+    short_is is = as_short g _ _ a o.kind a.stage is found_tx.is_open.kind
+
+    by_holder : a.stage ≡ stages.Short → (r : Option ℕ) → IsHeldBy old.preserve (table_of op) r → operation_of_short s r (transaction_of o) op ≡ staged built s (lines.Good (asks session op))
+    by_holder is r held =
+        ap (λ h. operation_of_short s h (transaction_of o) op) (sym (holder_is s (live_rising s shape.opens.rising) (table_of op) r (subst (λ hs. IsHeldBy hs (table_of op) r) stands.holders held)))
+        ∙ by_kind IsShort (short_is is).0
+
+    pub operated_held : a.stage ≡ stages.Short → (n : ℕ) → IsHeldBy old.preserve (table_of op) (Some n) → (opens : List (Option OpenView)) → HasAt old.opens session None opens
+        → IsStep (with_opens old opens) base history (lines.Good (asks session op)) (replies.Preserved (table_of op) n)
+    operated_held is n held opens at =
+        leads base history (lines.Good (asks session op)) (replies.Preserved (table_of op) n) (replies.Preserved (table_of op) n) _ (by_holder is (Some n) held) refl
+        (subst (λ stage. StandsAt (left_core old old.room stage a.number opens) (to_active s (active_of s session) (λ u. ended s u session))) is
+        (ended_stands old session base history sound legal stands old.room a opens here at))
+
+    -- on these rows
+    module _ (rows : List StoredRow) (answer_is : counted (is_full (transaction_of o)) rows (transaction_of o) op ≡ staged built s (lines.Good (asks session op))) (opens : List (Option OpenView)) where
+      counted_full : most_operations ≤ length a.notes.notes → AreSameOpens old.opens opens → IsStep (with_opens old opens) base history (lines.Good (asks session op)) replies.LimitOps
+      counted_full full same =
+          let is : is_full (transaction_of o) ≡ true = sym (full_is g o a found_tx.is_open) ∙ le-leb most_operations (length a.notes.notes) full in
+          stays old (with_opens old opens) (asks session op) replies.LimitOps base history (same_but_opens old opens same) stands replies.LimitOps
+          (ap (λ b. counted b rows (transaction_of o) op) (sym is) ∙ answer_is) refl refl
+
+      counted_done : (mark : ℕ) (reply : Reply) (b : OpenView) → length a.notes.notes < most_operations → HasDone old.store mark a op reply b → HasAt old.opens session (Some b) opens → rows_at mark old.store ≡ rows
+          → IsOpen g (with_step (record { op = op; reply = reply; order = serial s.agenda; latest = latest s }) o) b → IsStep (with_opens old opens) base history (lines.Good (asks session op)) reply
+      counted_done mark reply b room has at rows_are is_open =
+          let not_full : is_full (transaction_of o) ≡ false = sym (full_is g o a found_tx.is_open) ∙ lt-leb most_operations (length a.notes.notes) room in
+          let seen_now : reply ≡ see o.number rows (operations (transaction_of o)) op =
+          has.seen (map (λ d. d.op) o.steps) found_tx.is_open.own ∙ (λ i. see (found_tx.is_open.number i) (rows_are i) (sym (ops_answered o.steps) i) op) in
+          let step : Step = record { op = op; reply = reply; order = serial s.agenda; latest = latest s } in
+          let now : StandsAt (with_opens old opens) (answered s op reply session) = record {
+            counters = stands.counters;
+            agenda = stands.agenda;
+            holders = stands.holders ∙ sym (batches_stepped (is_of session) step s.active);
+            store = stands.store;
+            opens = opens_changed g old.opens s.active stands.opens session (with_step step) o b opens (λ u. refl) found_tx.found at is_open;
+            records = records_answered s op reply session old.records stands.records;
+            areas = stands.areas ∙ sym (areas_stepped (is_of session) step s.active);
+          } in
+          leads base history (lines.Good (asks session op)) reply reply (with_opens old opens) (seen_now ∙ ap (λ t. counted t rows (transaction_of o) op) (sym not_full) ∙ answer_is) refl
+          (subst (StandsAt (with_opens old opens)) (sym (seen_changes s session op o.number rows (operations (transaction_of o)) reply seen_now)) now)
+
+    -- it is done at a mark
+    module _ (mark : ℕ) (reply : Reply) (b : OpenView) (has : HasDone old.store mark a op reply b) where
+      abbrev step : Step
+      step = record { op = op; reply = reply; order = serial s.agenda; latest = latest s }
+
+      abbrev ops : List Op
+      ops = map (λ d. d.op) o.steps
+
+      -- its note, where the versions that are seen tell the last writes
+      note_now : (last : Cell → Option LastWrite) → ((cell : Cell) → write_seen (visible mark (versions_at old.store cell)) ≡ last cell) → IsNoteBy (IsAskedLook everybody last) ops op has.note
+      note_now last tells =
+          note_so (IsSeenLook old.store mark) (IsAskedLook everybody last) (λ cell look. seen_is_asked old.store mark last cell look (tells cell)) ops op has.note (has.note_is ops found_tx.is_open.own)
+
+      done_open : IsOfKind g o.number (o.steps ++ step ∷ []) b o.kind a.stage → IsOpen g (with_step step o) b
+      done_open kind = record {
+        number = has.number ∙ found_tx.is_open.number;
+        own = has.own ∙ ap (put_write (write_of op)) found_tx.is_open.own ∙ sym (writes_of-push [] ops op) ∙ ap writes_of (sym (map-append (λ (d : Step). d.op) o.steps (step ∷ [])));
+        kind = subst (IsOfKind g o.number (o.steps ++ step ∷ []) b o.kind) (sym has.stage) kind;
       }
 
-  -- it is done
-  module _ (a b : OpenView) (reply : Reply) (has : HasDone old.store old.commits a op reply b) (o : Active) (is : IsOpen old.store old.commits base history o a) where
-    -- what the transaction sees is the reply
-    seen_now : reply ≡ see o.number (latest s) (operations (transaction_of o)) op
-    seen_now =
-        has.seen (map (λ d. d.op) o.steps) is.own
-        ∙ (λ i. see (is.number i) (newest i) (sym (ops_answered o.steps) i) op)
+      -- by a live batch
+      live_done : (e : Declared) → a.stage ≡ stages.Live e mark → FoundLive g o.number o.steps a o.kind (declaration e) mark → IsOpen g (with_step step o) b
+      live_done e is live =
+          let more : IsLiveOpen g o.number e.writes live.snapshot (o.steps ++ step ∷ []) mark b = record {
+            slot_at = live.live.slot_at;
+            rows = live.live.rows;
+            writes = live.live.writes;
+            notes = subst (AreNotesBy (λ d. IsAskedLook everybody (last_write g.base live.snapshot)) (numbered (o.steps ++ step ∷ []))) (sym has.noted)
+                (notes_push (λ d. IsAskedLook everybody (last_write g.base live.snapshot)) step has.note o.steps a.notes.notes live.live.notes (note_now (last_write g.base live.snapshot) live.live.writes));
+          } in
+          done_open (subst (λ stage. IsOfKind g o.number (o.steps ++ step ∷ []) b o.kind stage) (sym is)
+          (subst (λ kind. IsOfKind g o.number (o.steps ++ step ∷ []) b kind (stages.Live e mark)) (sym live.kind_is) (refl, more)))
 
-    abbrev step : Step
-    step = record { op = op; reply = reply; order = serial s.agenda; latest = latest s }
+    -- a short on the latest rows
+    module _ (up_to : AreUpTo old.commits old.store) (is : a.stage ≡ stages.Short) (unheld : IsHeldBy old.preserve (table_of op) None) (opens : List (Option OpenView)) where
+      newest : rows_at old.commits old.store ≡ latest s
+      newest = latest_at old.commits old.store up_to ∙ stands.store.rows
 
-    abbrev more : List Entry
-    more = record { line = asks session op; reply = reply } ∷ []
+      tells : (cell : Cell) → write_seen (visible old.commits (versions_at old.store cell)) ≡ last_write g.base (serial s.agenda) cell
+      tells cell = ap write_seen (visible_latest old.commits (versions_at old.store cell) (up_to_items old.commits old.store cell up_to)) ∙ stands.store.written cell
 
-    -- its entry adds the step
-    added : active_of s session ≡ Some o → active_of (state base (history ++ more)) session ≡ Some (with_step step o)
-    added there =
-        ap (λ t. active_of t session) (state-push (first_state base) history (record { line = asks session op; reply = reply }) ∙ after_seen s session op o.number (latest s) (operations (transaction_of o)) reply seen_now)
-        ∙ change_find (is_of session) (with_step step) s.active o (λ u. refl) there
+      short_done : (reply : Reply) (b : OpenView) → HasDone old.store old.commits a op reply b → IsOpen g (with_step (record { op = op; reply = reply; order = serial s.agenda; latest = latest s }) o) b
+      short_done reply b has =
+          let more : Step = record { op = op; reply = reply; order = serial s.agenda; latest = latest s } in
+          let before : IsShortOpen g o.steps a = (short_is is).1 in
+          let short_open : IsShortOpen g (o.steps ++ more ∷ []) b = record {
+            notes = subst (AreNotesBy (λ d. IsAskedLook everybody (last_write g.base d.order)) (numbered (o.steps ++ more ∷ []))) (sym has.noted)
+                (notes_push (λ d. IsAskedLook everybody (last_write g.base d.order)) more has.note o.steps a.notes.notes before.notes (note_now old.commits reply b has (last_write g.base (serial s.agenda)) tells));
+            marks = subst (AreMarked old.store old.commits (o.steps ++ more ∷ [])) (sym (has.marked is)) (marks_push old.store old.commits o.steps a.notes.marks more newest before.marks);
+            moments = all_push (λ d. d.latest ≡ run g.base d.order) o.steps more before.moments refl;
+            rising = all_push (λ d. IsRising cell_of d.latest) o.steps more before.rising (latest_rising base history sound);
+          } in
+          done_open old.commits reply b has (subst (λ stage. IsOfKind g o.number (o.steps ++ more ∷ []) b o.kind stage) (sym is)
+          (subst (λ kind. IsOfKind g o.number (o.steps ++ more ∷ []) b kind stages.Short) (sym (short_is is).0) short_open))
 
-    -- a look of a deletion that the store tells of
-    told_now : active_of s session ≡ Some o → (look : Look) → IsToldBy old.store old.commits has.note.table look → IsTold base (history ++ more) o.number o.steps step has.note.table look
-    told_now there look told gone =
-        let cell : Cell = record { table = has.note.table; key = look.key } in
-        let deleted : IsDeleted old.store old.commits cell look.writer = told gone in
-        let last : versions.latest (versions_at old.store cell) ≡ Some deleted.version =
-        sym (visible_latest old.commits (versions_at old.store cell) (up_to_items old.commits old.store cell up_to)) ∙ deleted.seen in
-        record {
-          front = history;
-          entry = record { line = asks session op; reply = reply };
-          back = [];
-          parts = refl;
-          session = session;
-          open_tx = o;
-          before = there;
-          after = added there;
-          number_is = refl;
-          steps_are = refl;
-          deleted = subst (IsDeletion (serial s.agenda) cell) deleted.by (stands.store.deletions cell deleted.version last deleted.deletes);
-        }
+      pub operated_short_full : most_operations ≤ length a.notes.notes → AreSameOpens old.opens opens → IsStep (with_opens old opens) base history (lines.Good (asks session op)) replies.LimitOps
+      operated_short_full full same = counted_full (latest s) (by_holder is None unheld) opens full same
 
-    -- what is kept of it is what it has now
-    done_open : active_of s session ≡ Some o → IsOpen old.store old.commits base (history ++ more) (with_step step o) b
-    done_open there =
-        let longer : IsOpen old.store old.commits base (history ++ more) o a = open_longer old.store old.commits base history more o a is in
-        let ops : List Op = map (λ d. d.op) o.steps in
-        let note_now : IsNote (latest s) ops op has.note = subst (λ rows. IsNote rows ops op has.note) newest (has.note_is ops is.own) in
-        let tells : AllByRecursion (IsTold base (history ++ more) o.number o.steps step has.note.table) (looks_in has.note.reach) =
-        all_map (IsToldBy old.store old.commits has.note.table) (IsTold base (history ++ more) o.number o.steps step has.note.table) (told_now there) (looks_in has.note.reach) has.told in
-        record {
-          number = has.number ∙ is.number;
-          short = is.short;
-          own = has.own ∙ ap (put_write (write_of op)) is.own ∙ sym (writes_of-push [] ops op) ∙ ap writes_of (sym (map-append (λ (d : Step). d.op) o.steps (step ∷ [])));
-          notes = subst (AreNotes (o.steps ++ step ∷ [])) (sym has.noted) (notes_push o.steps a.notes.notes step has.note is.notes note_now);
-          marks = subst (AreMarked old.store old.commits (o.steps ++ step ∷ [])) (sym has.marked) (marks_push old.store old.commits o.steps a.notes.marks step newest is.marks);
-          told = subst (AreTold base (history ++ more) o.number (o.steps ++ step ∷ [])) (sym has.noted) (told_push base (history ++ more) o.number o.steps a.notes.notes step has.note longer.told tells);
-          rising = all_push (λ d. IsRising cell_of d.latest) o.steps step is.rising rising;
-        }
+      pub operated_short_done : (reply : Reply) → length a.notes.notes < most_operations → HasMore old.store old.commits old.opens session a op reply opens → IsStep (with_opens old opens) base history (lines.Good (asks session op)) reply
+      operated_short_done reply room more =
+          counted_done (latest s) (by_holder is None unheld) opens old.commits reply more.now room more.done more.kept_at newest (short_done reply more.now more.done)
 
-    -- and the core stands for one entry more
-    abbrev with_opens : List (Option OpenView) → CoreView
-    with_opens opens = record { counters = old.counters; order = old.order; commits = old.commits; store = old.store; opens = opens }
+    -- a live batch
+    module _ (e : Declared) (mark : ℕ) (is : a.stage ≡ stages.Live e mark) where
+      live : FoundLive g o.number o.steps a o.kind (declaration e) mark
+      live = as_live_open g _ _ a o.kind a.stage e mark is found_tx.is_open.kind
 
-    done_stands : (opens : List (Option OpenView)) → HasAt old.opens session (Some b) opens → active_of s session ≡ Some o → StandsFor (with_opens opens) base (history ++ more)
-    done_stands opens at there =
-        let later : HasOpens old.store old.commits base (history ++ more) old.opens s.active = opens_longer old.store old.commits base history old.opens s.active stands.opens more in
-        let now : StandsAt (with_opens opens) base (history ++ more) (answered s op reply session) = record {
-          counters = stands.counters;
-          order = stands.order;
-          store = stands.store;
-          opens = opens_changed old.store old.commits base (history ++ more) old.opens s.active later session (with_step step) o b opens (λ u. refl) there at (done_open there);
-        } in
-        stands_after (with_opens opens) base history (record { line = asks session op; reply = reply }) (answered s op reply session)
-        (after_seen s session op o.number (latest s) (operations (transaction_of o)) reply seen_now) now
+      by_refusal : (r : Option Reply) → r ≡ refusal (declaration e) op → operation_of_batch s r live.snapshot (transaction_of o) op ≡ staged built s (lines.Good (asks session op))
+      by_refusal r refused = ap (λ q. operation_of_batch s q live.snapshot (transaction_of o) op) refused ∙ by_kind (IsLive (declaration e) live.snapshot) live.kind_is
 
-  pub operated_done : (a : OpenView) (reply : Reply) (opens : List (Option OpenView)) → opened old.opens session ≡ Some a → length a.notes.notes < most_operations → HasMore old.store old.commits old.opens session a op reply opens
-      → IsStep (record { counters = old.counters; order = old.order; commits = old.commits; store = old.store; opens = opens }) base history (asks session op) reply
-  operated_done a reply opens here room more_done =
-      let f = some_open a here in
-      let not_full : is_full (transaction_of f.open_tx) ≡ false = sym (full_is old.store old.commits base history f.open_tx a f.is_open) ∙ lt-leb most_operations (length a.notes.notes) room in
-      let answer_is : answer s (asks session op) ≡ see f.open_tx.number (latest s) (operations (transaction_of f.open_tx)) op =
-      answered_so f.open_tx f.found ∙ ap (λ t. counted t (latest s) (transaction_of f.open_tx) op) not_full in
-      record {
-        reply_is = seen_now a more_done.now reply more_done.done f.open_tx f.is_open ∙ sym answer_is;
-        stands = done_stands a more_done.now reply more_done.done f.open_tx f.is_open opens more_done.kept_at f.found;
-      }
+      pub operated_refused : (reply : Reply) → Some reply ≡ refusal (declaration e) op → IsStep old base history (lines.Good (asks session op)) reply
+      operated_refused reply refused =
+          stays old old (asks session op) reply base history (same_core old old refl) stands reply (by_refusal (Some reply) refused) refl
+          (refusal_quiet s session op (declaration e) reply (sym refused))
+
+      pub operated_live_full : None ≡ refusal (declaration e) op → (opens : List (Option OpenView)) → most_operations ≤ length a.notes.notes → AreSameOpens old.opens opens
+          → IsStep (with_opens old opens) base history (lines.Good (asks session op)) replies.LimitOps
+      operated_live_full allowed opens full same = counted_full (run s.base live.snapshot) (by_refusal None allowed) opens full same
+
+      pub operated_live_done : None ≡ refusal (declaration e) op → (opens : List (Option OpenView)) (reply : Reply) → length a.notes.notes < most_operations → HasMore old.store mark old.opens session a op reply opens
+          → IsStep (with_opens old opens) base history (lines.Good (asks session op)) reply
+      operated_live_done allowed opens reply room more =
+          counted_done (run s.base live.snapshot) (by_refusal None allowed) opens mark reply more.now room more.done more.kept_at live.live.rows (live_done mark reply more.now more.done e is live)
+
+-- the open transaction whose stage is told
+record IsStaged (o : Option OpenView) (stage : Stage) : Type 0 where
+  open_tx : OpenView
+  here : o ≡ Some open_tx
+  is : open_tx.stage ≡ stage
+
+staged_open : (o : Option OpenView) (stage : Stage) → option_map (λ a. a.stage) o ≡ Some stage → IsStaged o stage
+staged_open None stage is = absurd (none_some is)
+staged_open (Some a) stage is = record { open_tx = a; here = refl; is = some_same is }
+
+-- by whether there are as many as there may be
+by_count : (n : ℕ) (P : Type 0) → (most_operations ≤ n → P) → (n < most_operations → P) → P
+by_count n P full room = by_test (nat_le most_operations n) refl where
+  by_test : (b : Bool) → nat_le most_operations n ≡ b → P
+  by_test true is = full (leb-true most_operations n is)
+  by_test false is = room (leb-false most_operations n is)
+
+-- what an operation of the open transactions leaves where it is full, and where it is done
+abbrev pub IfFull : CoreView → ℕ → Reply → List (Option OpenView) → Type 0
+IfFull v session reply opens = (a : OpenView) → opened v.opens session ≡ Some a → most_operations ≤ length a.notes.notes → (reply ≡ replies.LimitOps) × AreSameOpens v.opens opens
+
+abbrev pub IfDone : CoreView → ℕ → ℕ → Op → Reply → List (Option OpenView) → Type 0
+IfDone v mark session op reply opens = (a : OpenView) → opened v.opens session ≡ Some a → length a.notes.notes < most_operations → HasMore v.store mark v.opens session a op reply opens
+
+-- a live batch that may not do it
+pub refused : (core : CoreView) (session : ℕ) (op : Op) (e : Declared) (mark : ℕ) (reply : Reply) → option_map (λ a. a.stage) (opened core.opens session) ≡ Some (stages.Live e mark) → Some reply ≡ refusal (declaration e) op
+    → Steps core (asks session op) reply core
+refused core session op e mark reply is refusal_is base history sound legal stands =
+    let f : IsStaged (opened core.opens session) (stages.Live e mark) = staged_open (opened core.opens session) (stages.Live e mark) is in
+    operated_refused core session op base history sound legal stands f.open_tx f.here e mark f.is reply refusal_is
+
+-- by the fields of a core
+module _ (v w : CoreView) (same : v ≡ w) (session : ℕ) (op : Op) where
+  from_fields : (reply : Reply) (new : CoreView) → Steps v (asks session op) reply new → Steps w (asks session op) reply new
+  from_fields reply new steps = subst (λ u. Steps u (asks session op) reply new) same steps
+
+  stage_in : (stage : Stage) → option_map (λ a. a.stage) (opened w.opens session) ≡ Some stage → IsStaged (opened v.opens session) stage
+  stage_in stage is = staged_open (opened v.opens session) stage (subst (λ u. option_map (λ a. a.stage) (opened u.opens session) ≡ Some stage) (sym same) is)
+
+  none_in : (o : Option OpenView) → option_map (λ (a : OpenView). a.stage) o ≡ None → o ≡ None
+  none_in None is = refl
+  none_in (Some a) is = absurd (none_some (sym is))
+
+  pub none_from : option_map (λ a. a.stage) (opened v.opens session) ≡ None → Steps w (asks session op) replies.NoTx w
+  none_from none = subst (λ u. Steps u (asks session op) replies.NoTx u) same (λ base history sound legal stands. operated_none v session op base history sound legal stands (none_in (opened v.opens session) none))
+
+  pub pending_from : (e : Declared) → option_map (λ a. a.stage) (opened v.opens session) ≡ Some (stages.Pending e) → Steps w (asks session op) (replies.NotYet e.from) w
+  pending_from e is =
+      let f : IsStaged (opened v.opens session) (stages.Pending e) = staged_open (opened v.opens session) (stages.Pending e) is in
+      subst (λ u. Steps u (asks session op) (replies.NotYet e.from) u) same (λ base history sound legal stands. operated_pending v session op base history sound legal stands f.open_tx f.here e f.is)
+
+  pub held_from : option_map (λ a. a.stage) (opened w.opens session) ≡ Some stages.Short → (table n : ℕ) → table ≡ table_of op → IsHeldBy v.preserve table (Some n) → (opens : List (Option OpenView)) → HasAt v.opens session None opens
+      → Steps w (asks session op) (replies.Preserved table n) (with_opens v opens)
+  held_from is table n table_is held opens at =
+      let f : IsStaged (opened v.opens session) stages.Short = stage_in stages.Short is in
+      subst (λ t. Steps w (asks session op) (replies.Preserved t n) (with_opens v opens)) (sym table_is)
+      (from_fields (replies.Preserved (table_of op) n) (with_opens v opens)
+      (λ base history sound legal stands. operated_held v session op base history sound legal stands f.open_tx f.here f.is n (subst (λ t. IsHeldBy v.preserve t (Some n)) table_is held) opens at))
+
+  module _ (opens : List (Option OpenView)) where
+    short_from : AreUpTo v.commits v.store → option_map (λ a. a.stage) (opened w.opens session) ≡ Some stages.Short → (table : ℕ) → table ≡ table_of op → IsHeldBy v.preserve table None
+        → (reply : Reply) → IfFull v session reply opens → IfDone v v.commits session op reply opens → Steps w (asks session op) reply (with_opens v opens)
+    short_from up_to is table table_is unheld reply full done =
+        let f : IsStaged (opened v.opens session) stages.Short = stage_in stages.Short is in
+        let none : IsHeldBy v.preserve (table_of op) None = subst (λ t. IsHeldBy v.preserve t None) table_is unheld in
+        from_fields reply (with_opens v opens) (λ base history sound legal stands.
+        by_count (length f.open_tx.notes.notes) (IsStep (with_opens v opens) base history (lines.Good (asks session op)) reply)
+        (λ most. let says = full f.open_tx f.here most in
+        subst (IsStep (with_opens v opens) base history (lines.Good (asks session op))) (sym says.0)
+        (operated_short_full v session op base history sound legal stands f.open_tx f.here up_to f.is none opens most says.1))
+        (λ room. operated_short_done v session op base history sound legal stands f.open_tx f.here up_to f.is none opens reply room (done f.open_tx f.here room)))
+
+    pub short_ok : AreUpTo v.commits v.store → option_map (λ a. a.stage) (opened w.opens session) ≡ Some stages.Short → (table : ℕ) → table ≡ table_of op → IsHeldBy v.preserve table None
+        → {E : Type 0} → (r : Result Reply E) → IfOk r (λ reply. IfFull v session reply opens) → IfOk r (λ reply. IfDone v v.commits session op reply opens)
+        → IfOk r (λ reply. Steps w (asks session op) reply (with_opens v opens))
+    short_ok up_to is table table_is unheld r full done = if_both_ok _ _ _ (λ reply f d. short_from up_to is table table_is unheld reply f d) r full done
+
+    live_from : (e : Declared) (mark : ℕ) → option_map (λ a. a.stage) (opened w.opens session) ≡ Some (stages.Live e mark) → None ≡ refusal (declaration e) op
+        → (reply : Reply) → IfFull v session reply opens → IfDone v mark session op reply opens → Steps w (asks session op) reply (with_opens v opens)
+    live_from e mark is allowed reply full done =
+        let f : IsStaged (opened v.opens session) (stages.Live e mark) = stage_in (stages.Live e mark) is in
+        from_fields reply (with_opens v opens) (λ base history sound legal stands.
+        by_count (length f.open_tx.notes.notes) (IsStep (with_opens v opens) base history (lines.Good (asks session op)) reply)
+        (λ most. let says = full f.open_tx f.here most in
+        subst (IsStep (with_opens v opens) base history (lines.Good (asks session op))) (sym says.0)
+        (operated_live_full v session op base history sound legal stands f.open_tx f.here e mark f.is allowed opens most says.1))
+        (λ room. operated_live_done v session op base history sound legal stands f.open_tx f.here e mark f.is allowed opens reply room (done f.open_tx f.here room)))
+
+    pub live_ok : (e : Declared) (mark : ℕ) → option_map (λ a. a.stage) (opened w.opens session) ≡ Some (stages.Live e mark) → None ≡ refusal (declaration e) op
+        → {E : Type 0} → (r : Result Reply E) → IfOk r (λ reply. IfFull v session reply opens) → IfOk r (λ reply. IfDone v mark session op reply opens)
+        → IfOk r (λ reply. Steps w (asks session op) reply (with_opens v opens))
+    live_ok e mark is allowed r full done = if_both_ok _ _ _ (λ reply f d. live_from e mark is allowed reply f d) r full done
+
+    -- the core stays one
+    opens_within : IsWithin v → IsWithin (with_opens v opens)
+    opens_within within = record { marks = within.marks; room = within.room; listed = within.listed; epoch_bound = within.epoch_bound; last_bound = within.last_bound }
+
+    pub step_core : IsStanding v → IsWithin v → (reply : Reply) → Steps w (asks session op) reply (with_opens v opens) → IsCore (with_opens v opens)
+    step_core standing within reply steps = core_step_from v w same (asks session op) reply (with_opens v opens) steps standing (opens_within within)
+
+    same_core_from : IsStanding v → IsWithin v → AreSameOpens v.opens opens → IsCore (with_opens v opens)
+    same_core_from standing within keeps = core_same_from v w same (with_opens v opens) (subst (λ u. IsSame u (with_opens v opens)) same (same_but_opens v opens keeps)) standing (opens_within within)
+
+    pub result_core : IsStanding v → IsWithin v → {E : Type 0} → (r : Result Reply E) → IfOk r (λ reply. Steps w (asks session op) reply (with_opens v opens)) → OnErr r (AreSameOpens v.opens opens) → IsCore (with_opens v opens)
+    result_core standing within r steps keeps = by_result _ _ _ (step_core standing within) (same_core_from standing within) r steps keeps

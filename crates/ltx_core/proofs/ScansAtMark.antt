@@ -13,12 +13,12 @@ use Rattle.ltx_model.specs.declared.writes.Look.{Look}
 use Rattle.ltx_model.specs.declared.writes.Write.{Write}
 use Rattle.ltx_model.specs.Keys.{Cell, key_cmp, same_cell, in_range, AreAbove, IsRising, item_at}
 use Rattle.ltx_model.specs.Operations.{cell_of_write, writes_at, looks_up, writes_of}
-use Rattle.ltx_model.specs.Notes.{IsLook, IsRange, look_of, is_one_of}
+use Rattle.ltx_model.specs.Notes.{IsRangeBy, look_of, is_one_of}
 use Rattle.ltx_model.specs.Rows.{rows_between}
 use Rattle.ltx_model.proofs.OneMore.{see-is}
 use Rattle.ltx_model.proofs.CellOrder.{same_cell_same, same_cell_refl, in_one_table}
 use Rattle.ltx_lemmas.proofs.LastWrites.{rising_writes}
-use Rattle.ltx_lemmas.proofs.Lists.{none_some, all_map}
+use Rattle.ltx_lemmas.proofs.Lists.{none_some}
 use Rattle.ltx_lemmas.proofs.Members.{same_number}
 use Rattle.ltx_model.proofs.Rising.{item_at-above}
 use Rattle.ltx_lemmas.proofs.Searches.{is_written_of}
@@ -33,8 +33,9 @@ use Rattle.ltx_store.specs.Scans.{look_of_version, looks_between}
 use Rattle.ltx_store.proofs.Looks.{cell_of_look, looks_rising, look-between}
 use Rattle.ltx_store.proofs.Rows.{rows_rising}
 use Rattle.ltx_core.specs.Views.{OpenView}
-use Rattle.ltx_core.specs.Operations.{HasDone, IsToldBy}
-use Rattle.ltx_core.proofs.GetsAtMark.{done_by, look_is, look_told}
+use Rattle.ltx_core.specs.declared.stage.Stage.TheVariants as stages
+use Rattle.ltx_core.specs.Operations.{HasDone, IsSeenLook}
+use Rattle.ltx_core.proofs.GetsAtMark.{done_by}
 
 -- what each item gives of the place at which it stands holds of all
 module _ {A : Type 0} (cell : A → Cell) (P : A → Type 0) where
@@ -59,8 +60,8 @@ both_true true b is = (refl, is)
 both_true false b is = cc
 
 -- what is found within a range
-found_within : {A : Type 0} (b : Bool) (o : Option A) (x : A) → cond b o None ≡ Some x → (b ≡ true) × (o ≡ Some x)
-found_within true o x is = (refl, is)
+found_within : {A : Type 0} (b : Bool) (o : Option A) (x : A) → cond b o None ≡ Some x → b ≡ true
+found_within true o x is = refl
 found_within false o x is = absurd (none_some is)
 
 -- the keys of a range that were written
@@ -108,26 +109,22 @@ module _ (kept : List Kept) (mark : ℕ) (rising : IsRising cell_of_kept kept) (
   look_is_at : (key : List ℕ) → item_at (cell_of_look table) looks (at key) ≡ cond (in_range low high key) (look_of_version key (visible mark (versions_at kept (at key)))) None
   look_is_at key = look-between table mark low high key kept rising
 
-  looks_stand : AllByRecursion (λ l. (in_range low high l.key ≡ true) × (look_of_version l.key (visible mark (versions_at kept (at l.key))) ≡ Some l)) looks
-  looks_stand =
-      all_placed (cell_of_look table) (λ l. (in_range low high l.key ≡ true) × (look_of_version l.key (visible mark (versions_at kept (at l.key))) ≡ Some l)) looks (looks_rising table mark low high kept rising)
+  looks_inside : AllByRecursion (λ l. in_range low high l.key ≡ true) looks
+  looks_inside =
+      all_placed (cell_of_look table) (λ l. in_range low high l.key ≡ true) looks (looks_rising table mark low high kept rising)
       (λ l is. found_within (in_range low high l.key) (look_of_version l.key (visible mark (versions_at kept (at l.key)))) l (sym (look_is_at l.key) ∙ is))
-
-  pub looks_told : AllByRecursion (IsToldBy kept mark table) looks
-  looks_told = all_map _ (IsToldBy kept mark table) (λ l stands gone. look_told kept mark rising (at l.key) l stands.1 gone) looks looks_stand
 
   looked_up : (key : List ℕ) (earlier : List Op) → looks_up (at key) earlier (Scan table low high) ≡ true → in_range low high key ≡ true
   looked_up key earlier is = (both_true (table == table) (in_range low high key) (both_true ((table == table) && in_range low high key) (not (list_any (writes_at (at key)) earlier)) is).0).1
 
-  pub range_is : (earlier : List Op) → IsRange (rows_at mark kept) earlier table low high looks (keys_between (writes_of earlier) table low high)
+  pub range_is : (earlier : List Op) → IsRangeBy (IsSeenLook kept mark) earlier table low high looks (keys_between (writes_of earlier) table low high)
   range_is earlier = record {
     looks_rising = looks_rising table mark low high kept rising;
-    looks_within = all_map _ (λ l. in_range low high l.key ≡ true) (λ l stands. stands.0) looks looks_stand;
+    looks_within = looks_inside;
     own_rising = rising_keys table low high (filter (is_between table low high) (writes_of earlier)) (rising_between table low high (writes_of earlier) (rising_writes [] earlier tt));
     own_within = within_keys table low high (writes_of earlier);
     own_keys = λ key within. one_written table low high key within (writes_of earlier) ∙ is_written_of (at key) earlier;
-    looked = λ key is.
-        subst (IsLook (rows_at mark kept) (at key)) (sym (look_at_place table looks key ∙ look_is_at key ∙ rw (looked_up key earlier is) refl)) (look_is kept mark rising (at key));
+    looked = λ key is. look_at_place table looks key ∙ look_is_at key ∙ rw (looked_up key earlier is) refl;
   }
 
 -- the rows that a scan finds stand in order, as a merge asks
@@ -138,11 +135,11 @@ rising_found kept mark table low high rows rising are = subst (IsRising (cell_in
 pub scanned : (kept : List Kept) (mark : ℕ) → IsRising cell_of_kept kept → (old new : OpenView) (table : ℕ) (low high : List ℕ) (rows all : List Row) (looks : List Look) (own : List (List ℕ)) (reply : Reply)
     → rows ≡ rows_between (rows_at mark kept) table low high → all ≡ merged old.own.writes table low high rows
     → looks ≡ looks_between mark kept table low high → own ≡ keys_between old.own.writes table low high → reply ≡ Rows all
-    → old.notes.mark ≡ mark → new.number ≡ old.number → new.notes ≡ with_note old.notes (record { table = table; reach = Range low high looks own; write = None }) → new.own.writes ≡ old.own.writes
+    → (old.stage ≡ stages.Short → old.notes.mark ≡ mark) → new.number ≡ old.number → new.stage ≡ old.stage
+    → new.notes ≡ with_note old.notes (record { table = table; reach = Range low high looks own; write = None }) → new.own.writes ≡ old.own.writes
     → HasDone kept mark old (Scan table low high) reply new
-scanned kept mark rising old new table low high rows all looks own reply rows_are all_are looks_are own_are answer marked number tx writes =
-    done_by kept mark old new (Scan table low high) reply (record { table = table; reach = Range low high looks own; write = None }) marked number tx writes
-    (subst (AllByRecursion (IsToldBy kept mark table)) (sym looks_are) (looks_told kept mark rising table low high))
+scanned kept mark rising old new table low high rows all looks own reply rows_are all_are looks_are own_are answer marked number stage notes writes =
+    done_by kept mark old new (Scan table low high) reply (record { table = table; reach = Range low high looks own; write = None }) marked number stage notes writes
     (λ earlier same.
     answer
     ∙ ap Rows (all_are ∙ ap (merged old.own.writes table low high) rows_are ∙ ap (λ ws. merged ws table low high (rows_between (rows_at mark kept) table low high)) same
@@ -153,5 +150,5 @@ scanned kept mark rising old new table low high rows all looks own reply rows_ar
       reach = (refl, refl, ranged earlier (sym looks_are) (sym (own_are ∙ ap (λ ws. keys_between ws table low high) same)));
       write = refl;
     }) where
-      ranged : (earlier : List Op) → looks_between mark kept table low high ≡ looks → keys_between (writes_of earlier) table low high ≡ own → IsRange (rows_at mark kept) earlier table low high looks own
-      ranged earlier l o = subst (λ ls. IsRange (rows_at mark kept) earlier table low high ls own) l (subst (IsRange (rows_at mark kept) earlier table low high (looks_between mark kept table low high)) o (range_is kept mark rising table low high earlier))
+      ranged : (earlier : List Op) → looks_between mark kept table low high ≡ looks → keys_between (writes_of earlier) table low high ≡ own → IsRangeBy (IsSeenLook kept mark) earlier table low high looks own
+      ranged earlier l o = subst (λ ls. IsRangeBy (IsSeenLook kept mark) earlier table low high ls own) l (subst (IsRangeBy (IsSeenLook kept mark) earlier table low high (looks_between mark kept table low high)) o (range_is kept mark rising table low high earlier))

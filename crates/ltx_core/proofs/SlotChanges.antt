@@ -1,6 +1,5 @@
 -- The slots of sessions: one is set, and one more is made.
-use Rattle.std.proofs.Common.{◌≡◌, ℕ, zero, suc, ◌<◌, ◌≤◌, Bool, true, false, ◌==◌, List, [], ◌∷◌, ◌++◌, length, get_or, set, Option, Some, None, is_some, refl, sym, ap, ◌∙◌, subst, arith}
-use Rattle.std.specs.Prelude.{slice_get}
+use Rattle.std.proofs.Common.{◌≡◌, ℕ, zero, suc, ◌<◌, ◌≤◌, Bool, true, false, ◌==◌, List, [], ◌∷◌, ◌++◌, length, map, get_or, set, Option, Some, None, option_map, refl, sym, ap, ◌∙◌, subst, arith}
 use Rattle.std.specs.List.{AllByRecursion}
 use Rattle.std.proofs.lemmas.Bool.{eqb-true, eq-eqb, ne_eqb}
 use Rattle.std.proofs.lemmas.List.{set-get_or}
@@ -9,13 +8,13 @@ use Rattle.ltx_model.specs.declared.replies.Reply.{Reply}
 use Rattle.ltx_model.specs.declared.replies.Reply.TheVariants.{NoTx, LimitOps}
 use Rattle.ltx_model.specs.declared.writes.Write.{Write}
 use Rattle.ltx_model.specs.Limits.{most_operations}
-use Rattle.ltx_lemmas.proofs.Lists.{true_false, some_same, none_some}
+use Rattle.ltx_lemmas.proofs.Lists.{true_false, some_same}
 use Rattle.ltx_store.specs.Kept.{Kept}
 use Rattle.ltx_core.specs.Operations.{HasDoneIn, HasMore}
 use Rattle.ltx_core.specs.Same.{IsSameAt, AreSameOpens}
 use Rattle.ltx_core.proofs.StandsStill.{same_at_itself, same_opens}
 use Rattle.ltx_core.specs.Views.{OpenView}
-use Rattle.ltx_core.specs.Slots.{joined, opened, HasAt}
+use Rattle.ltx_core.specs.Slots.{opened, HasAt}
 
 -- a new slot is empty
 pub opened_push : (slots : List (Option OpenView)) (n : ℕ) → opened (slots ++ None ∷ []) n ≡ opened slots n
@@ -53,6 +52,12 @@ opened_past (s ∷ ss) (suc place) past = opened_past ss place (omega arith)
 
 pub slots_past : (slots : List (Option OpenView)) (place : ℕ) → length slots ≤ place → HasAt slots place None slots
 slots_past slots place past = record { here = opened_past slots place past; others = λ n apart. refl }
+
+-- where each slot is changed, each open transaction is
+pub opened_map : (f : OpenView → OpenView) (slots : List (Option OpenView)) (n : ℕ) → opened (map (option_map f) slots) n ≡ option_map f (opened slots n)
+opened_map f [] n = refl
+opened_map f (s ∷ ss) zero = refl
+opened_map f (s ∷ ss) (suc n) = opened_map f ss n
 
 -- An operation in the slot of a session. The slots are those of before it, by their items; x is what the slot had, and y what it has.
 module _ (slots old : List (Option OpenView)) (same : slots ≡ old) (place session : ℕ) (is : place ≡ session) (x y : Option OpenView) (within : place < length slots) (at : x ≡ get_or slots place x) where

@@ -8,23 +8,16 @@ use Rattle.ltx_model.specs.declared.commands.Line.{Line}
 use Rattle.ltx_model.specs.declared.commands.Line.TheVariants as lines
 use Rattle.ltx_model.specs.States.{State}
 
--- what a session asks: shorts
-abbrev pub built_verb : Verb → Bool
-built_verb verbs.Short = true
-built_verb (verbs.Long writes reads) = false
-built_verb (verbs.Do op) = true
-built_verb verbs.Commit = true
-built_verb verbs.Abort = true
+-- all that a session asks, and the next epoch
+abbrev pub built_command : State → Command → Bool
+built_command s commands.Epoch = true
+built_command s commands.Flush = false
+built_command s commands.Prune = false
+built_command s (commands.Ask session verb) = true
 
-abbrev pub built_command : Command → Bool
-built_command commands.Epoch = true
-built_command commands.Flush = false
-built_command commands.Prune = false
-built_command (commands.Ask session verb) = built_verb verb
-
--- the lines that are answered so far, whatever the state: every malformed one among them
+-- the lines that are answered so far: every malformed one among them
 abbrev pub built : State → Line → Bool
-built s (lines.Good command) = built_command command
+built s (lines.Good command) = built_command s command
 built s (lines.Bad cause) = true
 
 -- what takes no memory: an abort, and the next epoch

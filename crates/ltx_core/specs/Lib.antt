@@ -1,10 +1,16 @@
 pub mod Built
+pub mod Since
 pub mod Views
 pub mod Slots
 pub mod Seen
 pub mod Operations
 pub mod Installed
 pub mod Same
+pub mod Recorded
 pub mod Stands
 pub mod Steps
 pub mod Commits
+pub mod Asking
+pub mod Decided
+pub mod Epochs
+pub mod Ends

@@ -7,6 +7,7 @@ use Rattle.ltx_core.specs.Slots.{opened}
 -- an open transaction with the same notes, marks and writes
 pub record IsSameOpen (old new : OpenView) : Type 0 where
   pub number : new.number ≡ old.number
+  pub stage : new.stage ≡ old.stage
   pub notes : new.notes.notes ≡ old.notes.notes
   pub marks : new.notes.marks ≡ old.notes.marks
   pub own : new.own.writes ≡ old.own.writes
@@ -22,7 +23,11 @@ AreSameOpens old new = (session : ℕ) → IsSameAt (opened old session) (opened
 
 pub record IsSame (old new : CoreView) : Type 0 where
   pub counters : new.counters ≡ old.counters
-  pub order : new.order ≡ old.order
+  pub list : new.list ≡ old.list
   pub commits : new.commits ≡ old.commits
+  pub batch : new.batch ≡ old.batch
   pub store : HasSameVersions old.store new.store
+  pub preserve : new.preserve ≡ old.preserve
   pub opens : AreSameOpens old.opens new.opens
+  pub records : new.records ≡ old.records
+  pub areas : new.areas ≡ old.areas

@@ -1,4 +1,4 @@
-//! The begin of a short.
+//! The begin of a short, and of a batch.
 
 ghost use Rattle.std.specs.Prelude.{IfOk, OnErr};
 ghost use Rattle.ltx_model.specs.declared.commands.Command.TheVariants.{Ask};
@@ -7,10 +7,13 @@ ghost use Rattle.ltx_core.specs.Same.{IsSame};
 ghost use Rattle.ltx_core.specs.Steps.{Steps};
 
 use crate::open::Open;
-use crate::state::Core;
+use crate::stage::Declared;
+use crate::state::{Core, LAST_EPOCH};
+use ltx_forward::decide::Live;
 use ltx_model::memory::NoMemory;
 use ltx_model::numbers::{Session, Tx};
 use ltx_model::replies::Reply;
+use ltx_model::tables::TableSet;
 
 impl Core {
     /// A short begins, where the session has no open transaction and there is a number left.
@@ -24,9 +27,50 @@ impl Core {
         match Tx::new(self.last + 1) {
             None => Ok(Reply::LimitTx),
             Some(tx) => {
-                self.opens.put(session, Open::short(self.alloc, tx))?;
+                self.opens.reserve(session)?;
+                self.opens.put(session, Open::short(self.alloc, tx));
                 self.last += 1;
                 Ok(Reply::Begun { tx })
+            }
+        }
+    }
+
+    /// A batch begins, where the session has no open transaction, there is a next epoch, in which it
+    /// becomes live, and there is a number left. The room for its slot is taken now, since the next
+    /// epoch takes no memory.
+    pub(crate) fn begin_batch(
+        &mut self,
+        session: Session,
+        writes: TableSet,
+        reads: TableSet,
+    ) -> Result<Reply, NoMemory>
+        ensures ok { IfOk result (λ reply. Steps self.old (Ask session (verbs.Long writes reads)) reply self.new) }
+        ensures err { OnErr result (IsSame self.old self.new) }
+    {
+        if self.opens.has(session) {
+            return Ok(Reply::HasTx);
+        }
+        if self.epoch == LAST_EPOCH {
+            return Ok(Reply::LimitEpoch);
+        }
+        match Tx::new(self.last + 1) {
+            None => Ok(Reply::LimitTx),
+            Some(tx) => {
+                let epoch = self.epoch + 1;
+                let declared = Declared {
+                    writes,
+                    reads,
+                    from: epoch,
+                };
+                self.agenda.reserve(self.preserve.len() + 1)?;
+                self.opens.reserve(session)?;
+                self.areas.reserve(1)?;
+                self.preserve.add(tx, writes)?;
+                self.areas.push_reserved(Live { tx, writes, reads });
+                self.opens
+                    .put(session, Open::batch(self.alloc, tx, declared));
+                self.last += 1;
+                Ok(Reply::BegunAt { tx, epoch })
             }
         }
     }

@@ -1,13 +1,19 @@
-//! The next epoch.
+//! The next epoch: every pending batch becomes live, with a slot in the agenda.
 
+ghost use Rattle.std.specs.Prelude.{◌≡◌, ◌≤◌, ◌+◌, ◌++◌};
 ghost use Rattle.ltx_model.specs.declared.commands.Command.TheVariants.{Epoch};
+ghost use Rattle.ltx_core.specs.Views.{pending};
+ghost use Rattle.ltx_core.specs.Epochs.{pending_numbers, AreNew};
 ghost use Rattle.ltx_core.specs.Steps.{Steps};
 
 use crate::state::{Core, LAST_EPOCH};
+use ltx_agenda::agenda::Agenda;
 use ltx_model::replies::Reply;
+use ltx_preserve::preserve::Preserve;
 
 impl Core {
-    /// The next epoch, where there is one.
+    /// The next epoch, where there is one. The pending batches get their slots in the order of their
+    /// numbers, read what is committed by now, and hold their tables. It takes no memory.
     pub(crate) fn advance(&mut self) -> Reply
         ensures { Steps self.old Epoch result self.new }
     {
@@ -15,6 +21,23 @@ impl Core {
             return Reply::LimitEpoch;
         }
         self.epoch += 1;
+        append_slots(&mut self.agenda, &self.preserve);
+        self.opens.go_live(self.commits);
+        self.preserve.go_live_all();
         Reply::Advanced { epoch: self.epoch }
+    }
+}
+
+/// Appends a slot for each pending batch.
+fn append_slots(agenda: &mut Agenda, preserve: &Preserve)
+    requires room { pending preserve.now ≤ agenda.old.room }
+    requires fresh { AreNew agenda.old.list (pending_numbers preserve.now) }
+    ensures list { agenda.new.list ≡ agenda.old.list ++ pending_numbers preserve.now }
+    ensures room { agenda.new.room + pending preserve.now ≡ agenda.old.room }
+{
+    for place in 0..preserve.len() {
+        if let Some(tx) = preserve.pending_at(place) {
+            agenda.append_slot(tx);
+        }
     }
 }

@@ -1,20 +1,34 @@
 //! The kind of an open transaction, with its number and its notes.
 
-ghost use Rattle.std.specs.Prelude.{◌≡◌, ◌<◌, nat_le, [], ◌∷◌, length, OnOk, OnErr, IfOk, List, Some, None};
-ghost use Rattle.ltx_model.specs.Limits.{most_operations};
-ghost use Rattle.ltx_model.specs.NoteLists.{no_notes, with_note, at_mark};
+ghost use Rattle.std.specs.Prelude.{◌≡◌, ◌<◌, nat_le, false, [], ◌∷◌, length, OnOk, OnErr, IfOk, ℕ, List, Option, Some, None};
+ghost use Rattle.ltx_model.specs.Limits.{last_number, most_operations};
+ghost use Rattle.ltx_model.specs.NoteLists.{with_note};
 ghost use Rattle.ltx_model.specs.Notes.{AreNotes};
-ghost use Rattle.ltx_model.specs.States.{Step};
+ghost use Rattle.ltx_model.specs.Records.{is_kept};
+ghost use Rattle.ltx_model.specs.Decisions.{IsDecision};
+ghost use Rattle.ltx_model.specs.States.{State, LiveBatch, Step};
 ghost use Rattle.ltx_model.specs.declared.looked.Reach.TheVariants.{Nothing, Point, Range};
-ghost use Rattle.ltx_store.specs.Kept.{latest_rows};
-ghost use Rattle.ltx_validate.specs.Verdicts.{change_in, IsVerdict};
-ghost use Rattle.ltx_core.specs.Views.{number_of, notes_of};
+ghost use Rattle.ltx_model.specs.Verdicts.{IsVerdict};
+ghost use Rattle.ltx_forward.specs.Asked.{decision_of};
+ghost use Rattle.ltx_reads.specs.Noted.{HasNoted};
+ghost use Rattle.ltx_store.specs.Kept.{rows_at, latest_rows};
+ghost use Rattle.ltx_validate.specs.Verdicts.{verdict_of, AreMarkedAt, AreHolders};
+ghost use Rattle.ltx_core.specs.declared.stage.Stage.TheVariants as stages;
+ghost use Rattle.ltx_core.specs.Asking.{IsAskedWith, IsAskableWith};
+ghost use Rattle.ltx_core.specs.Recorded.{is_batch};
+ghost use Rattle.ltx_core.specs.Views.{number_of, notes_of, stage_of, live_at};
 
+use crate::stage::{Declared, Stage};
+use ltx_agenda::agenda::Agenda;
+use ltx_forward::decide::{Decision, Live, decide};
+use ltx_long::long::LongTx;
 use ltx_model::bytes::{Bound, Key};
 use ltx_model::looked::Looked;
 use ltx_model::memory::NoMemory;
 use ltx_model::numbers::{Table, Tx};
-use ltx_model::writes::Look;
+use ltx_model::writes::{Look, Target, Write};
+use ltx_preserve::preserve::Preserve;
+use ltx_reads::records::Records;
 use ltx_short::short::ShortTx;
 use ltx_store::store::Store;
 use ltx_validate::check::{Verdict, check_short};
@@ -22,10 +36,11 @@ use ltx_validate::check::{Verdict, check_short};
 /// How many operations a transaction may have.
 const MOST: u32 = 65_536;
 
-/// An open transaction's kind. As long as nothing else is built, each is a short.
+/// An open transaction's kind.
 #[derive(Debug, Drop)]
 pub(crate) enum Kind {
     Short(ShortTx),
+    Long(LongTx),
 }
 
 impl Kind {
@@ -35,6 +50,7 @@ impl Kind {
     {
         match self {
             Kind::Short(tx) => tx.tx(),
+            Kind::Long(tx) => tx.tx(),
         }
     }
 
@@ -44,17 +60,55 @@ impl Kind {
     {
         match self {
             Kind::Short(tx) => tx.count() >= MOST,
+            Kind::Long(tx) => tx.count() >= MOST,
         }
     }
 
-    /// The next notes are of this mark. After NoMemory nothing has changed.
+    /// What it is.
+    pub(crate) fn stage(&self) -> Stage
+        ensures { result ≡ stage_of self.now }
+    {
+        match self {
+            Kind::Short(_) => Stage::Short,
+            Kind::Long(tx) => {
+                let declared = Declared {
+                    writes: tx.writes(),
+                    reads: tx.reads(),
+                    from: tx.from(),
+                };
+                match tx.mark() {
+                    None => Stage::Pending(declared),
+                    Some(mark) => Stage::Live(declared, mark),
+                }
+            }
+        }
+    }
+
+    /// The next notes of a short are of this mark; a batch's are all of its slot's. After NoMemory
+    /// nothing has changed.
     pub(crate) fn set_mark(&mut self, mark: u64) -> Result<(), NoMemory>
         ensures number { number_of self.new ≡ number_of self.old }
-        ensures marked { OnOk result (notes_of self.new ≡ at_mark (notes_of self.old) mark) }
-        ensures kept { OnErr result (self.new ≡ self.old) }
+        ensures stage { stage_of self.new ≡ stage_of self.old }
+        ensures marked { OnOk result (stage_of self.old ≡ stages.Short → (notes_of self.new).mark ≡ mark) }
+        ensures notes { (notes_of self.new).notes ≡ (notes_of self.old).notes }
+        ensures marks { (notes_of self.new).marks ≡ (notes_of self.old).marks }
     {
         match self {
             Kind::Short(tx) => tx.set_mark(mark),
+            Kind::Long(_) => Ok(()),
+        }
+    }
+
+    /// A pending batch becomes live at this mark; what is live or a short stays as it is.
+    pub(crate) fn go_live(&mut self, mark: u64)
+        ensures number { number_of self.new ≡ number_of self.old }
+        ensures stage { stage_of self.new ≡ live_at mark (stage_of self.old) }
+        ensures notes { notes_of self.new ≡ notes_of self.old }
+    {
+        if let Kind::Long(tx) = self {
+            if tx.mark().is_none() {
+                tx.go_live(mark);
+            }
         }
     }
 
@@ -68,11 +122,13 @@ impl Kind {
     ) -> Result<(), NoMemory>
         requires limit { length (notes_of self.old).notes < most_operations }
         ensures number { number_of self.new ≡ number_of self.old }
+        ensures stage { stage_of self.new ≡ stage_of self.old }
         ensures noted { OnOk result (notes_of self.new ≡ with_note (notes_of self.old) (record { table = table; reach = Point key look own; write = None })) }
         ensures kept { OnErr result (self.new ≡ self.old) }
     {
         match self {
             Kind::Short(tx) => tx.note_get(table, key, look, own),
+            Kind::Long(tx) => tx.note_get(table, key, look, own),
         }
     }
 
@@ -87,11 +143,13 @@ impl Kind {
     ) -> Result<(), NoMemory>
         requires limit { length (notes_of self.old).notes < most_operations }
         ensures number { number_of self.new ≡ number_of self.old }
+        ensures stage { stage_of self.new ≡ stage_of self.old }
         ensures noted { OnOk result (notes_of self.new ≡ with_note (notes_of self.old) (record { table = table; reach = Range low high looks.items own.items; write = None })) }
         ensures kept { OnErr result (self.new ≡ self.old) }
     {
         match self {
             Kind::Short(tx) => tx.note_scan(table, low, high, looks, own),
+            Kind::Long(tx) => tx.note_scan(table, low, high, looks, own),
         }
     }
 
@@ -99,20 +157,55 @@ impl Kind {
     pub(crate) fn note_write(&mut self, table: Table, key: Key) -> Result<(), NoMemory>
         requires limit { length (notes_of self.old).notes < most_operations }
         ensures number { number_of self.new ≡ number_of self.old }
+        ensures stage { stage_of self.new ≡ stage_of self.old }
         ensures noted { OnOk result (notes_of self.new ≡ with_note (notes_of self.old) (record { table = table; reach = Nothing; write = Some key })) }
         ensures kept { OnErr result (self.new ≡ self.old) }
     {
         match self {
             Kind::Short(tx) => tx.note_write(table, key),
+            Kind::Long(tx) => tx.note_write(table, key),
         }
     }
 
-    /// The verdict on its look-ups over the latest rows.
-    pub(crate) fn verdict(&self, store: &Store) -> Result<Verdict, NoMemory>
-        ensures { IfOk result (λ verdict. (steps : List Step) → AreNotes steps (notes_of self.now).notes → IsVerdict (latest_rows store.now) steps (change_in verdict)) }
+    /// Notes its commit, with these writes. After NoMemory nothing has changed.
+    pub(crate) fn record(&self, records: &mut Records, writes: &[Write]) -> Result<(), NoMemory>
+        requires stranger { is_kept records.old (number_of self.now) ≡ false }
+        requires limit { records.old.commits < last_number }
+        ensures noted { OnOk result (HasNoted records.old (number_of self.now) (is_batch (stage_of self.now)) (notes_of self.now).notes writes.now records.new) }
+        ensures err { OnErr result (records.new ≡ records.old) }
     {
         match self {
-            Kind::Short(tx) => check_short(tx, store),
+            Kind::Short(tx) => records.add_short(tx, writes),
+            Kind::Long(tx) => records.add_long(tx, writes),
+        }
+    }
+
+    /// What is decided of the commit of a live batch with these writes, by the live batches, the
+    /// records and the agenda. A short commits where it stands.
+    pub(crate) fn decide(
+        &self,
+        writes: &[Write],
+        lives: &[Live],
+        records: &Records,
+        agenda: &Agenda,
+    ) -> Result<Decision, NoMemory>
+        requires asked { IsAskableWith (number_of self.now) (stage_of self.now) (notes_of self.now) writes.now lives.now records.now agenda.now }
+        ensures { IfOk result (λ decision. (s : State) (i : LiveBatch) → IsAskedWith s i (number_of self.now) (stage_of self.now) (notes_of self.now) writes.now lives.now records.now agenda.now → IsDecision s i (decision_of decision)) }
+    {
+        match self {
+            Kind::Short(_) => Ok(Decision::Commit(Target::Home)),
+            Kind::Long(tx) => decide(tx, writes, lives, records, agenda),
+        }
+    }
+
+    /// The verdict on a short's tables by these holders, and on its look-ups over the latest rows. A
+    /// batch passes.
+    pub(crate) fn verdict(&self, store: &Store, preserve: &Preserve) -> Result<Verdict, NoMemory>
+        ensures { IfOk result (λ verdict. stage_of self.now ≡ stages.Short → (steps : List Step) → AreNotes steps (notes_of self.now).notes → AreMarkedAt (λ mark. rows_at mark store.now) steps (notes_of self.now).marks → (holder : ℕ → Option ℕ) → AreHolders preserve.now holder → IsVerdict holder (latest_rows store.now) steps (verdict_of verdict)) }
+    {
+        match self {
+            Kind::Short(tx) => check_short(tx, store, preserve),
+            Kind::Long(_) => Ok(Verdict::Pass),
         }
     }
 }

@@ -3,26 +3,39 @@
 //! It is answered from the rows at a mark with its own writes over them. What it saw of the store
 //! is noted; its writes stay with it until it commits.
 
-ghost use Rattle.std.specs.Prelude.{◌≡◌, ◌<◌, ◌≤◌, true, [], ◌∷◌, length, nat_le, IfOk, OnOk, OnErr, Some, None, List, option_copied};
+ghost use Rattle.std.specs.Prelude.{◌≡◌, ◌<◌, ◌≤◌, true, false, [], ◌∷◌, length, nat_le, IfOk, OnOk, OnErr, Some, None, ℕ, List, Option, option_copied};
 ghost use Rattle.ltx_model.specs.declared.commands.Op.TheVariants.{Get, Scan};
 ghost use Rattle.ltx_model.specs.declared.looked.Reach.TheVariants.{Nothing};
 ghost use Rattle.ltx_model.specs.declared.replies.Reply.TheVariants.{Done, LimitOps};
-ghost use Rattle.ltx_model.specs.Limits.{most_operations};
+ghost use Rattle.ltx_model.specs.Limits.{last_number, most_operations};
 ghost use Rattle.ltx_model.specs.Keys.{IsRising, put_in_order};
-ghost use Rattle.ltx_model.specs.NoteLists.{no_notes, with_note, at_mark};
+ghost use Rattle.ltx_model.specs.NoteLists.{no_notes, with_note};
 ghost use Rattle.ltx_model.specs.Notes.{AreNotes};
 ghost use Rattle.ltx_model.specs.Operations.{cell_of_write};
-ghost use Rattle.ltx_model.specs.States.{Step};
-ghost use Rattle.ltx_store.specs.Kept.{latest_rows};
+ghost use Rattle.ltx_model.specs.Records.{is_kept};
+ghost use Rattle.ltx_model.specs.Decisions.{IsDecision};
+ghost use Rattle.ltx_model.specs.States.{State, LiveBatch, Step};
+ghost use Rattle.ltx_model.specs.Verdicts.{IsVerdict};
+ghost use Rattle.ltx_forward.specs.Asked.{decision_of};
+ghost use Rattle.ltx_reads.specs.Noted.{HasNoted};
+ghost use Rattle.ltx_store.specs.Kept.{rows_at, latest_rows};
 ghost use Rattle.ltx_store.specs.Scans.{look_of_version};
-ghost use Rattle.ltx_validate.specs.Verdicts.{change_in, IsVerdict};
+ghost use Rattle.ltx_validate.specs.Verdicts.{verdict_of, AreMarkedAt, AreHolders};
+ghost use Rattle.ltx_core.specs.declared.stage.Stage.TheVariants as stages;
+ghost use Rattle.ltx_core.specs.Asking.{IsAskedWith, IsAskableWith};
+ghost use Rattle.ltx_core.specs.Recorded.{is_batch};
+ghost use Rattle.ltx_core.specs.Views.{gone_live};
 ghost use Rattle.ltx_core.specs.Seen.{answered, put_by};
 ghost use Rattle.ltx_core.specs.Operations.{HasDone};
 ghost use Rattle.ltx_core.specs.Same.{IsSameOpen};
 
 use crate::kind::Kind;
+use crate::stage::{Declared, Stage};
+use ltx_agenda::agenda::Agenda;
 use ltx_buffer::buffer::Buffer;
 use ltx_chain::chain::Version;
+use ltx_forward::decide::{Decision, Live};
+use ltx_long::long::LongTx;
 use ltx_model::bytes::{Bound, Key, Value};
 use ltx_model::commands::Op;
 use ltx_model::memory::NoMemory;
@@ -30,6 +43,8 @@ use ltx_model::numbers::{Table, Tx};
 use ltx_model::replies::Reply;
 use ltx_model::rows::RowList;
 use ltx_model::writes::{Look, Write};
+use ltx_preserve::preserve::Preserve;
+use ltx_reads::records::Records;
 use ltx_short::short::ShortTx;
 use ltx_store::scanned::Scanned;
 use ltx_store::store::Store;
@@ -46,17 +61,18 @@ pub struct Open {
 
 // Clauses see its number, its notes, and its own writes.
 impl Model for Open {
-    ghost use Rattle.ltx_core.specs.Views.{OpenView, number_of, notes_of};
+    ghost use Rattle.ltx_core.specs.Views.{OpenView, number_of, notes_of, stage_of};
 
     ghost Value = { OpenView };
 
-    ghost view = { λ a. record { number = number_of a.kind; notes = notes_of a.kind; own = a.own } };
+    ghost view = { λ a. record { number = number_of a.kind; stage = stage_of a.kind; notes = notes_of a.kind; own = a.own } };
 }
 
 impl Open {
     /// A short that has done nothing, which takes no memory.
     pub(crate) fn short(alloc: Global, tx: Tx) -> Open
         ensures number { result.number ≡ tx }
+        ensures stage { result.stage ≡ stages.Short }
         ensures notes { result.notes ≡ no_notes }
         ensures writes { result.own.writes ≡ [] }
     {
@@ -64,6 +80,38 @@ impl Open {
             kind: Kind::Short(ShortTx::new(alloc, tx)),
             own: Buffer::new(alloc),
         }
+    }
+
+    /// A pending batch, which takes no memory.
+    pub(crate) fn batch(alloc: Global, tx: Tx, declared: Declared) -> Open
+        ensures number { result.number ≡ tx }
+        ensures stage { result.stage ≡ stages.Pending declared }
+        ensures notes { result.notes.notes ≡ [] }
+        ensures writes { result.own.writes ≡ [] }
+    {
+        let Declared {
+            writes,
+            reads,
+            from,
+        } = declared;
+        Open {
+            kind: Kind::Long(LongTx::new(alloc, tx, writes, reads, from)),
+            own: Buffer::new(alloc),
+        }
+    }
+
+    /// What it is.
+    pub(crate) fn stage(&self) -> Stage
+        ensures { result ≡ self.now.stage }
+    {
+        self.kind.stage()
+    }
+
+    /// A pending batch becomes live at this mark; what is live or a short stays as it is.
+    pub(crate) fn go_live(&mut self, mark: u64)
+        ensures { self.new ≡ gone_live mark self.old }
+    {
+        self.kind.go_live(mark);
     }
 
     /// Its number.
@@ -90,11 +138,36 @@ impl Open {
         own.into_writes()
     }
 
-    /// The verdict on its look-ups over the latest rows.
-    pub(crate) fn verdict(&self, store: &Store) -> Result<Verdict, NoMemory>
-        ensures { IfOk result (λ verdict. (steps : List Step) → AreNotes steps self.now.notes.notes → IsVerdict (latest_rows store.now) steps (change_in verdict)) }
+    /// Notes its commit. After NoMemory nothing has changed.
+    pub(crate) fn record(&self, records: &mut Records) -> Result<(), NoMemory>
+        requires stranger { is_kept records.old self.now.number ≡ false }
+        requires limit { records.old.commits < last_number }
+        ensures noted { OnOk result (HasNoted records.old self.now.number (is_batch self.now.stage) self.now.notes.notes self.now.own.writes records.new) }
+        ensures err { OnErr result (records.new ≡ records.old) }
     {
-        self.kind.verdict(store)
+        self.kind.record(records, self.own.writes())
+    }
+
+    /// What is decided of the commit of a live batch, by the live batches, the records and the
+    /// agenda. A short commits where it stands.
+    pub(crate) fn decide(
+        &self,
+        lives: &[Live],
+        records: &Records,
+        agenda: &Agenda,
+    ) -> Result<Decision, NoMemory>
+        requires asked { IsAskableWith self.now.number self.now.stage self.now.notes self.now.own.writes lives.now records.now agenda.now }
+        ensures { IfOk result (λ decision. (s : State) (i : LiveBatch) → IsAskedWith s i self.now.number self.now.stage self.now.notes self.now.own.writes lives.now records.now agenda.now → IsDecision s i (decision_of decision)) }
+    {
+        self.kind.decide(self.own.writes(), lives, records, agenda)
+    }
+
+    /// The verdict on a short's tables by these holders, and on its look-ups over the latest rows. A
+    /// batch passes.
+    pub(crate) fn verdict(&self, store: &Store, preserve: &Preserve) -> Result<Verdict, NoMemory>
+        ensures { IfOk result (λ verdict. self.now.stage ≡ stages.Short → (steps : List Step) → AreNotes steps self.now.notes.notes → AreMarkedAt (λ mark. rows_at mark store.now) steps self.now.notes.marks → (holder : ℕ → Option ℕ) → AreHolders preserve.now holder → IsVerdict holder (latest_rows store.now) steps (verdict_of verdict)) }
+    {
+        self.kind.verdict(store, preserve)
     }
 
     /// An operation on the rows at a mark, with the own writes over them, unless it has done as many
@@ -126,7 +199,7 @@ impl Open {
         op: &Op,
     ) -> Result<Reply, NoMemory>
         requires limit { length self.old.notes.notes < most_operations }
-        requires marked { self.old.notes.mark ≡ mark }
+        requires marked { self.old.stage ≡ stages.Short → self.old.notes.mark ≡ mark }
         ensures done { IfOk result (λ reply. HasDone store.now mark self.old op.now reply self.new) }
         ensures kept { OnErr result (IsSameOpen self.old self.new) }
     {
@@ -149,7 +222,7 @@ impl Open {
     /// Gets the key's value: that of the own write, or else that of the version seen at the mark.
     fn get(&mut self, store: &Store, mark: u64, table: Table, key: &Key) -> Result<Reply, NoMemory>
         requires limit { length self.old.notes.notes < most_operations }
-        requires marked { self.old.notes.mark ≡ mark }
+        requires marked { self.old.stage ≡ stages.Short → self.old.notes.mark ≡ mark }
         ensures done { IfOk result (λ reply. HasDone store.now mark self.old (Get table key.now) reply self.new) }
         ensures kept { OnErr result (IsSameOpen self.old self.new) }
     {
@@ -176,7 +249,7 @@ impl Open {
         high: &Bound,
     ) -> Result<Reply, NoMemory>
         requires limit { length self.old.notes.notes < most_operations }
-        requires marked { self.old.notes.mark ≡ mark }
+        requires marked { self.old.stage ≡ stages.Short → self.old.notes.mark ≡ mark }
         ensures done { IfOk result (λ reply. HasDone store.now mark self.old (Scan table low.now high.now) reply self.new) }
         ensures kept { OnErr result (IsSameOpen self.old self.new) }
     {
@@ -195,6 +268,7 @@ impl Open {
         requires limit { length self.old.notes.notes < most_operations }
         ensures answer { IfOk result (λ reply. reply ≡ Done) }
         ensures number { OnOk result (self.new.number ≡ self.old.number) }
+        ensures stage { OnOk result (self.new.stage ≡ self.old.stage) }
         ensures noted { OnOk result (self.new.notes ≡ with_note self.old.notes (record { table = write.table; reach = Nothing; write = Some write.key })) }
         ensures own { OnOk result (self.new.own.writes ≡ put_in_order cell_of_write write self.old.own.writes) }
         ensures kept { OnErr result (IsSameOpen self.old self.new) }

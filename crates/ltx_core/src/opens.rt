@@ -1,14 +1,15 @@
 //! The open transactions, each at the number of its session, so that none is searched for.
 
-ghost use Rattle.std.specs.Prelude.{◌≡◌, ◌≤◌, ◌<◌, ℕ, [], length, is_some, IfOk, OnOk, OnErr, Some, None, option_copied};
+ghost use Rattle.std.specs.Prelude.{◌≡◌, ◌≤◌, ◌<◌, ℕ, [], length, is_some, option_map, IfOk, OnOk, OnErr, Some, None, option_copied};
 ghost use Rattle.ltx_model.specs.Limits.{most_operations};
 ghost use Rattle.ltx_model.specs.declared.replies.Reply.TheVariants.{NoTx, LimitOps};
-ghost use Rattle.ltx_core.specs.Views.{OpenView};
+ghost use Rattle.ltx_core.specs.Views.{OpenView, gone_live};
 ghost use Rattle.ltx_core.specs.Slots.{opened, HasAt};
 ghost use Rattle.ltx_core.specs.Operations.{HasDoneIn, HasMore};
 ghost use Rattle.ltx_core.specs.Same.{IsSameAt, AreSameOpens};
 
 use crate::open::Open;
+use crate::stage::Stage;
 use ltx_model::commands::Op;
 use ltx_model::memory::NoMemory;
 use ltx_model::numbers::Session;
@@ -50,6 +51,13 @@ impl Opens {
         self.slots.get(usize::from(session.number()))?.as_ref()
     }
 
+    /// What the session's open transaction is.
+    pub(crate) fn stage(&self, session: Session) -> Option<Stage>
+        ensures { result ≡ option_map (λ a. a.stage) (opened self.now session) }
+    {
+        Some(self.get(session)?.stage())
+    }
+
     /// Whether the session has an open transaction.
     pub(crate) fn has(&self, session: Session) -> bool
         ensures { result ≡ is_some (opened self.now session) }
@@ -57,16 +65,31 @@ impl Opens {
         matches!(self.slots.get(usize::from(session.number())), Some(Some(_)))
     }
 
-    /// The session has this open transaction, in place of the one that it had. After NoMemory there
-    /// may be more room.
-    pub(crate) fn put(&mut self, session: Session, tx: Open) -> Result<(), NoMemory>
-        ensures put { OnOk result (HasAt self.old session (Some tx) self.new) }
-        ensures kept { OnErr result ((n : ℕ) → opened self.new n ≡ opened self.old n) }
+    /// Makes a slot for the session. After NoMemory there may be more room.
+    pub(crate) fn reserve(&mut self, session: Session) -> Result<(), NoMemory>
+        ensures within { OnOk result (session < length self.new) }
+        ensures kept { (n : ℕ) → opened self.new n ≡ opened self.old n }
     {
         let place = usize::from(session.number());
-        self.grow(place + 1)?;
+        self.grow(place + 1)
+    }
+
+    /// The session has this open transaction, in place of the one that it had.
+    pub(crate) fn put(&mut self, session: Session, tx: Open)
+        requires slot { session < length self.old }
+        ensures put { HasAt self.old session (Some tx) self.new }
+    {
+        let place = usize::from(session.number());
         self.slots[place] = Some(tx);
-        Ok(())
+    }
+
+    /// The pending batches become live at this mark.
+    pub(crate) fn go_live(&mut self, mark: u64)
+        ensures { (session : ℕ) → opened self.new session ≡ option_map (gone_live mark) (opened self.old session) }
+    {
+        for slot in self.slots.iter_mut() {
+            go_live_in(slot, mark);
+        }
     }
 
     /// The session's open transaction, out of its slot.
@@ -113,6 +136,15 @@ impl Opens {
             self.slots.push(None)?;
         }
         Ok(())
+    }
+}
+
+/// What is pending in a slot becomes live at this mark.
+fn go_live_in(slot: &mut Option<Open>, mark: u64)
+    ensures { slot.new ≡ option_map (gone_live mark) slot.old }
+{
+    if let Some(open) = slot {
+        open.go_live(mark);
     }
 }
 

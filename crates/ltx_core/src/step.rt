@@ -59,7 +59,7 @@ impl Core {
             Verb::Do(op) => self.operate(session, op),
             Verb::Commit => self.commit(session),
             Verb::Abort => Ok(self.abort(session)),
-            Verb::Long { .. } => Ok(Reply::Later),
+            Verb::Long { writes, reads } => self.begin_batch(session, *writes, *reads),
         }
     }
 }

@@ -1,6 +1,6 @@
 -- Frames of earlier runs and a front of those of a history: they are lawful one after another, and what they give back together.
 use Rattle.std.specs.Prelude.{max}
-use Rattle.std.proofs.Common.{◌≡◌, ℕ, ◌≤◌, Bool, true, false, cond, not, List, [], ◌∷◌, ◌++◌, map, Option, Some, None, refl, sym, ap, ◌∙◌, subst, append_assoc, arith}
+use Rattle.std.proofs.Common.{◌≡◌, ℕ, ◌≤◌, Bool, true, false, cond, not, List, [], ◌∷◌, ◌++◌, map, Some, None, refl, sym, ap, ◌∙◌, subst, append_assoc, arith}
 use Rattle.std.proofs.Math.Nat.{le-max_left, le-max_right, max-le, max-eq_right}
 use Rattle.std.specs.List.{AllByRecursion}
 use Rattle.ltx_model.specs.declared.commands.Line.{Line}

@@ -7,13 +7,13 @@ use Rattle.ltx_lemmas.proofs.Lists.{some_same, none_some, true_false, given_here
 use Rattle.ltx_laws.proofs.LiveStates.{IsOpenBatch, open_batch}
 
 -- a holder is a live batch
-record IsBatchOf (s : State) (table n : ℕ) : Type 0 where
-  batch : LiveBatch
-  live : Contains (live_batches s) batch
-  number : batch.tx.number ≡ n
-  declared : holds table batch ≡ true
+pub record IsBatchOf (s : State) (table n : ℕ) : Type 0 where
+  pub batch : LiveBatch
+  pub live : Contains (live_batches s) batch
+  pub number : batch.tx.number ≡ n
+  pub declared : holds table batch ≡ true
 
-batch_of : (s : State) (table : ℕ) (h : Holder) → Contains (holders_of s) h → holds_table table h ≡ true → IsBatchOf s table h.number
+pub batch_of : (s : State) (table : ℕ) (h : Holder) → Contains (holders_of s) h → holds_table table h ≡ true → IsBatchOf s table h.number
 batch_of s table h c e = by_open (given_item (λ (o : Active). holder_of o.kind o.number) s.active h c) where
   by_kind : (o : Active) → Contains s.active o → (k : Kind) → o.kind ≡ k → holder_of k o.number ≡ Some h → IsBatchOf s table h.number
   by_kind o at IsShort kind is = absurd (none_some is)

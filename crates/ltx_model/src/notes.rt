@@ -5,8 +5,8 @@
 //! also has a mark: the number of commits at its moment. Notes that follow one another mostly have
 //! the same one, so marks are kept by runs.
 
-ghost use Rattle.std.specs.Prelude.{◌≡◌, ◌<◌, ◌≤◌, ℕ, List, [], ◌∷◌, ◌++◌, length, OnOk, OnErr, Some, None};
-ghost use Rattle.std.specs.List.{list_any};
+ghost use Rattle.std.specs.Prelude.{◌≡◌, ◌<◌, ◌≤◌, ℕ, List, [], ◌∷◌, ◌++◌, length, OnOk, OnErr, IfSome, IfNone, Some, None};
+ghost use Rattle.std.specs.List.{list_any, AllByRecursion};
 ghost use Rattle.ltx_model.specs.Tables.{has_table};
 ghost use Rattle.ltx_model.specs.declared.looked.Reach.TheVariants.{Nothing, Point, Range};
 ghost use Rattle.ltx_model.specs.Limits.{most_operations};
@@ -50,7 +50,7 @@ impl Model for Notes {
 
     ghost view = { λ s. record { notes = s.notes.items; marks = marks_of s.runs.items s.mark (length s.notes.items - s.earlier); mark = s.mark } };
 
-    ghost invariant = { λ s. IsSummary s.notes.items s.earlier s.touched s.looked_into };
+    ghost invariant = { λ s. IsSummary s.notes.items s.runs.items s.earlier s.touched s.looked_into };
 }
 
 impl Notes {
@@ -160,9 +160,27 @@ impl Notes {
         &self.notes
     }
 
+    /// The marks of the notes, in order.
+    pub fn marks(&self) -> Marks<'_>
+        ensures value { result ≡ self.now.marks }
+        ensures count { length result ≡ length self.now.notes }
+        ensures limit { length self.now.notes ≤ most_operations }
+    {
+        Marks {
+            mark: 0,
+            count: 0,
+            later: &self.runs,
+            last: Some(Run {
+                mark: self.mark,
+                count: self.notes.len() - self.earlier,
+            }),
+        }
+    }
+
     /// The tables that operations touched.
     pub fn touched(&self) -> TableSet
-        ensures { (t : ℕ) → t < 64 → has_table result t ≡ list_any (is_of_table t) self.now.notes }
+        ensures members { (t : ℕ) → t < 64 → has_table result t ≡ list_any (is_of_table t) self.now.notes }
+        ensures within { AllByRecursion (λ note. note.table < 64) self.now.notes }
     {
         self.touched
     }
@@ -188,6 +206,50 @@ impl Notes {
             self.looked_into = self.looked_into.with(table);
         }
         Ok(())
+    }
+}
+
+/// The marks of notes that are still to come, in order.
+#[derive(Drop)]
+pub struct Marks<'n> {
+    // The mark of the next ones, and how many are left of them.
+    mark: u64,
+    count: usize,
+    // The runs after those, and the last one.
+    later: &'n [Run],
+    last: Option<Run>,
+}
+
+// Clauses see the list of marks that are still to come.
+impl<'n> Model for Marks<'n> {
+    ghost use Rattle.std.specs.Prelude.{ℕ, List, ◌++◌, replicate};
+    ghost use Rattle.ltx_model.specs.NoteLists.{marks_in, marks_in_last};
+
+    ghost Value = { List ℕ };
+
+    ghost view = { λ m. replicate m.count m.mark ++ marks_in m.later.now ++ marks_in_last m.last };
+}
+
+impl<'n> Marks<'n> {
+    /// The next mark, or None where there is none left.
+    pub fn next(&mut self) -> Option<u64>
+        ensures some { IfSome result (λ mark. self.old ≡ mark ∷ self.new) }
+        ensures none { IfNone result (self.old ≡ []) }
+        ensures end { IfNone result (self.new ≡ []) }
+    {
+        while self.count == 0 {
+            let run = match self.later.split_first() {
+                Some((run, later)) => {
+                    self.later = later;
+                    *run
+                }
+                None => self.last.take()?,
+            };
+            self.mark = run.mark;
+            self.count = run.count;
+        }
+        self.count -= 1;
+        Some(self.mark)
     }
 }
 

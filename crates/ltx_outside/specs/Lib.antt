@@ -1,4 +1,5 @@
 pub mod Contents
+pub mod Crash
 pub mod Faults
 pub mod Memory
 pub mod Reads

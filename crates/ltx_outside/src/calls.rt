@@ -35,6 +35,13 @@ impl Calls {
         }
     }
 
+    /// How many calls were made.
+    pub fn made(&self) -> u64
+        ensures { result ≡ self.now.made }
+    {
+        self.made
+    }
+
     /// Counts one more call, which fails where its number is one of those that are to fail.
     pub fn next(&mut self) -> Result<(), Failed>
         ensures planned { IsErr result ↔ IsTrue (is_to_fail self.new) }

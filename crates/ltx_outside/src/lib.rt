@@ -5,6 +5,7 @@
 #![tactic(auto)]
 
 mod calls;
+mod crash_disk;
 mod disk;
 mod failed;
 mod mem_disk;
@@ -13,6 +14,7 @@ mod mem_source;
 mod sink;
 mod source;
 
+pub use crash_disk::{Choice, CrashDisk};
 pub use disk::{Disk, LOG_LIMIT};
 pub use failed::Failed;
 pub use mem_disk::MemDisk;
@@ -84,6 +86,15 @@ mod tests {
         disk.read_at(1, &mut buffer)?;
         assert_eq!(rt; buffer, [2, 7]);
         assert_eq!(rt; disk.bytes(), [1, 2, 7, 8, 9].as_slice());
+        let mut crashing = CrashDisk::new(alloc, vec![in alloc; 1, 2, 3]?, 5, 9, Vec::new(alloc))?;
+        crashing.write_at(2, &[7, 8])?;
+        crashing.sync()?;
+        let fill = vec![in alloc; 9; 4]?;
+        let choice = Choice { length: 4, fill };
+        let torn = crashing.image(1, &choice)?;
+        assert_eq!(rt; torn.as_slice(), [1, 2, 9, 9].as_slice());
+        let whole = crashing.image(2, &choice)?;
+        assert_eq!(rt; whole.as_slice(), [1, 2, 7, 8].as_slice());
         Ok(())
     }
 }

@@ -1,4 +1,4 @@
-//! A disk in memory, for tests and programs without a file.
+//! A disk in memory, for tests and programs without a file. It tells its bytes, and nothing of crashes.
 
 ghost use Rattle.std.specs.Prelude.{◌≡◌, [], ◌≤◌, ◌<◌, ◌↔◌, ◌⊎◌, ◌+◌, Some, length, vec_capacity, take, drop, IsErr, IsTrue, IfOk, OnOk, OnErr};
 ghost use Rattle.ltx_outside.specs.Contents.{overwritten};
@@ -53,9 +53,11 @@ impl MemDisk {
 }
 
 impl Disk for MemDisk {
-    ghost use Rattle.std.specs.Prelude.{Some};
+    ghost use Rattle.std.specs.Prelude.{Some, None};
 
     ghost content = { λ d. Some d.bytes };
+
+    ghost crashes = { λ _. None };
 
     ghost faults = { λ d. d.calls.faults };
 
@@ -118,7 +120,7 @@ impl Disk for MemDisk {
 }
 
 /// Puts a piece over the bytes from a place on, and behind them what is longer. It allocates only where capacity is missing.
-fn overwrite(bytes: &mut Vec<u8>, at: usize, piece: &[u8]) -> Result<(), NoMemory>
+pub(crate) fn overwrite(bytes: &mut Vec<u8>, at: usize, piece: &[u8]) -> Result<(), NoMemory>
     requires within { at ≤ length bytes.old.items }
     ensures bytes { OnOk result (bytes.new.items ≡ overwritten at piece.now bytes.old.items) }
     ensures kept { OnErr result (bytes.new.items ≡ bytes.old.items) }

@@ -1,10 +1,9 @@
 -- What a batch more, a changed one or one less leaves of a table's least holder.
-use Rattle.std.proofs.Common.{◌≡◌, ℕ, zero, suc, ◌≤◌, ◌<◌, arith, nat_le, Bool, true, false, ◌&&◌, ◌||◌, ◌==◌, cond, List, [], ◌∷◌, ◌++◌, length, take, get_or, set, remove, ◌+◌, add-one, Contains, Option, Some, None, refl, sym, ap, ◌∙◌, subst, slice_index_or}
+use Rattle.std.proofs.Common.{◌≡◌, ℕ, zero, suc, ◌≤◌, ◌<◌, arith, nat_le, Bool, true, false, ◌&&◌, ◌||◌, List, [], ◌∷◌, ◌++◌, length, take, get_or, set, remove, ◌+◌, add-one, Contains, Option, Some, None, refl, sym, ap, ◌∙◌, subst, slice_index_or}
 use Rattle.std.proofs.lemmas.Bool.Decides.{nat_tests}
 use Rattle.std.specs.List.{list_any, AllByRecursion}
-use Rattle.std.proofs.lemmas.Grind.{common_steps}
-use Rattle.ltx_model.specs.Holders.{Holder, is_holder, holds_table, live_from_now, IsLeastHolder, IsUnheld, IsHeldBy}
-use Rattle.ltx_preserve.specs.Kept.{IsLeast, IsKept, AreKept, lesser_of}
+use Rattle.ltx_model.specs.Holders.{Holder, is_holder, holds_table, live_from_now, IsHeldBy}
+use Rattle.ltx_preserve.specs.Kept.{IsKept, AreKept, lesser_of}
 use Rattle.ltx_model.specs.Tables.{has_table}
 use Rattle.ltx_model.specs.Firsts.{IsFirst}
 

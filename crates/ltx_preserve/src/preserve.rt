@@ -5,11 +5,12 @@
 //! asks it in constant time; only what a batch declared is looked through when the batch becomes
 //! live or ends.
 
-ghost use Rattle.std.specs.Prelude.{◌≡◌, ◌<◌, ℕ, [], ◌∷◌, ◌++◌, true, false, List, OnOk, OnErr, IfSome, IfNone, slice_index_or, Some, None};
+ghost use Rattle.std.specs.Prelude.{◌≡◌, ◌<◌, ℕ, [], ◌∷◌, ◌++◌, true, false, List, length, map, OnOk, OnErr, IfSome, IfNone, slice_get, slice_index_or, Some, None};
+ghost use Rattle.std.specs.List.{list_any};
 ghost use Rattle.ltx_model.specs.Firsts.{IsFirst};
 ghost use Rattle.ltx_model.specs.Tables.{has_table};
 ghost use Rattle.ltx_model.specs.Holders.{Holder, is_holder, is_entered, entered, live_from_now, gone_live, removed, holds_table, IsHeldBy};
-ghost use Rattle.ltx_preserve.specs.Kept.{IsKept, lesser_of};
+ghost use Rattle.ltx_preserve.specs.Kept.{IsKept, IsLeastHeldIn, lesser_of, is_live_below, pending_number};
 
 use ltx_model::memory::NoMemory;
 use ltx_model::numbers::{Table, Tx};
@@ -62,6 +63,23 @@ impl Entered {
         ensures { result ≡ self.now.live }
     {
         self.live
+    }
+
+    /// Whether it is live and its number is below this one.
+    fn is_live_below(&self, tx: Tx) -> bool
+        ensures { result ≡ is_live_below tx self.now }
+    {
+        self.live && self.tx < tx
+    }
+
+    /// Its number, where it is pending.
+    fn pending(&self) -> Option<Tx>
+        ensures { result ≡ pending_number (Some self.now) }
+    {
+        if self.live {
+            return None;
+        }
+        Some(self.tx)
     }
 
     /// Whether it is live and has declared the table.
@@ -139,6 +157,14 @@ impl Preserve {
         }
     }
 
+    /// Makes each batch live that is not. It takes no memory.
+    pub fn go_live_all(&mut self)
+        ensures { self.new ≡ map live_from_now self.old }
+    {
+        make_live(&mut self.entered);
+        refresh(&self.entered, &mut self.least, TableSet::all());
+    }
+
     /// Removes a batch that has ended: it holds no table any more.
     pub fn remove(&mut self, tx: Tx)
         requires entered { is_entered self.old tx ≡ true }
@@ -150,6 +176,42 @@ impl Preserve {
                 refresh(&self.entered, &mut self.least, ended.tables());
             }
         }
+    }
+
+    /// Whether a batch of this number is entered.
+    pub fn has(&self, tx: Tx) -> bool
+        ensures { result ≡ is_entered self.now tx }
+    {
+        self.entered.iter().any(|batch| batch.number() == tx)
+    }
+
+    /// How many batches are entered.
+    pub fn len(&self) -> usize
+        ensures { result ≡ length self.now }
+    {
+        self.entered.len()
+    }
+
+    /// The number of the batch at this place, counted from 0 in the order in which they were entered,
+    /// or None where that batch is live or there is none.
+    pub fn pending_at(&self, place: usize) -> Option<Tx>
+        ensures { result ≡ pending_number (slice_get self.now place) }
+    {
+        self.entered.get(place)?.pending()
+    }
+
+    /// Whether a batch with a number below this one is live.
+    pub fn has_live_below(&self, tx: Tx) -> bool
+        ensures { result ≡ list_any (is_live_below tx) self.now }
+    {
+        self.entered.iter().any(|batch| batch.is_live_below(tx))
+    }
+
+    /// Whether some batch is live.
+    pub fn is_any_live(&self) -> bool
+        ensures { result ≡ list_any (λ h. h.live) self.now }
+    {
+        self.entered.iter().any(|batch| batch.is_live())
     }
 
     /// The least holder that is kept of a table.
@@ -166,6 +228,34 @@ impl Preserve {
     {
         self.kept(table)
     }
+
+    /// The least table of a set that somebody holds, with its least holder, or None where nobody
+    /// holds a table of the set. Where no batch is entered it takes a few instructions.
+    pub fn held(&self, tables: TableSet) -> Option<(Table, Tx)>
+        ensures some { IfSome result (λ r. IsLeastHeldIn self.now tables r.0 r.1) }
+        ensures none { IfNone result ((table : ℕ) → table < 64 → has_table tables table ≡ true → IsHeldBy self.now table None) }
+    {
+        if self.entered.is_empty() {
+            return None;
+        }
+        self.held_kept(tables)
+    }
+
+    /// As `held`, by what is kept of each table.
+    fn held_kept(&self, tables: TableSet) -> Option<(Table, Tx)>
+        ensures some { IfSome result (λ r. IsLeastHeldIn self.now tables r.0 r.1) }
+        ensures none { IfNone result ((table : ℕ) → table < 64 → has_table tables table ≡ true → IsHeldBy self.now table None) }
+    {
+        for number in 0..64u8 {
+            if let Some(table) = Table::new(number)
+                && tables.has(table)
+                && let Some(tx) = self.holder(table)
+            {
+                return Some((table, tx));
+            }
+        }
+        None
+    }
 }
 
 /// No holder of any table.
@@ -177,6 +267,15 @@ fn nobody() -> [Option<Tx>; 64]
         least[table] = None;
     }
     least
+}
+
+/// Makes each batch live.
+fn make_live(entered: &mut [Entered])
+    ensures { entered.new ≡ map live_from_now entered.old }
+{
+    for batch in entered.iter_mut() {
+        batch.go_live();
+    }
 }
 
 /// Where a batch stands.
@@ -234,14 +333,45 @@ mod tests {
     use ltx_model::tables::TableSet;
     use std::test::Fail;
 
+    fn table(n: u8) -> Result<Table, Fail> {
+        Ok(Table::new(n).ok_or(n)?)
+    }
+
+    fn tx(n: u64) -> Result<Tx, Fail> {
+        Ok(Tx::new(n).ok_or(n)?)
+    }
+
     #[test]
     fn a_batch_is_entered_and_holds_nothing_yet(rt: HostRuntime) -> Result<(), Fail> {
-        let (Some(table), Some(tx)) = (Table::new(5), Tx::new(1)) else {
-            return Err(Fail::from(5u64));
-        };
         let mut preserve = Preserve::new(rt.alloc());
-        preserve.add(tx, TableSet::all())?;
-        assert_eq!(rt; preserve.holder(table), None);
+        preserve.add(tx(1)?, TableSet::all())?;
+        assert!(rt; preserve.has(tx(1)?) && preserve.len() == 1);
+        assert_eq!(rt; preserve.pending_at(0), Some(tx(1)?));
+        assert_eq!(rt; preserve.holder(table(5)?), None);
+        assert_eq!(rt; preserve.held(TableSet::all()), None);
+        Ok(())
+    }
+
+    #[test]
+    fn a_live_batch_holds_its_tables_until_it_ends(rt: HostRuntime) -> Result<(), Fail> {
+        let batch = tx(1)?;
+        let mut preserve = Preserve::new(rt.alloc());
+        preserve.add(batch, TableSet::empty().with(table(5)?))?;
+        preserve.go_live(batch);
+        assert_eq!(rt; preserve.holder(table(5)?), Some(batch));
+        preserve.remove(batch);
+        assert_eq!(rt; preserve.holder(table(5)?), None);
+        Ok(())
+    }
+
+    #[test]
+    fn batches_become_live_together(rt: HostRuntime) -> Result<(), Fail> {
+        let mut preserve = Preserve::new(rt.alloc());
+        preserve.add(tx(3)?, TableSet::empty().with(table(5)?))?;
+        preserve.go_live_all();
+        assert!(rt; preserve.is_any_live() && preserve.has_live_below(tx(4)?));
+        assert_eq!(rt; preserve.pending_at(0), None);
+        assert_eq!(rt; preserve.held(TableSet::all()), Some((table(5)?, tx(3)?)));
         Ok(())
     }
 }

@@ -3,16 +3,31 @@
 
 #[cfg(test)]
 mod examples;
+#[cfg(test)]
+mod known;
+#[cfg(test)]
+mod limits;
 
 #[cfg(test)]
 mod tests {
-    use crate::examples::{CONFLICT, ORDERS, PHANTOM};
+    use crate::examples::{CONFLICT, FORWARDED, ORDERS, PHANTOM, REFUSED, SUM};
+    use crate::known::{
+        A_BATCH_BEFORE_ITS_ELDER, A_BATCH_BEFORE_ITS_EPOCH, A_BATCH_BEFORE_ONE_THAT_IS_REFUSED,
+        A_BATCH_GIVES_UP, A_BATCH_OUTSIDE_WHAT_IT_DECLARED, A_BATCH_THAT_SAW_TOO_MUCH,
+        A_FORWARDED_WRITE_UNDER_A_LATER_ONE, A_READ_SEES_A_COMMIT,
+        A_ROW_APPEARS_IN_A_SCANNED_RANGE, A_ROW_CAME_AND_WENT,
+        A_TOUCHED_TABLE_IS_HELD_AT_THE_COMMIT, BAD_LINES, Lines, NOTHING,
+        ONE_TRANSACTION_A_SESSION, OWN_WRITES_AND_ESCAPES, THE_ELDER_GIVES_UP,
+        TWO_BATCHES_READ_WHAT_THE_OTHER_WRITES, TWO_SHORTS_WRITE_ONE_KEY,
+    };
+    use crate::limits::{ACCOUNTS, FULL_LINES, LIMITS, Part, SHUFFLED, TRANSFERS};
     use ltx_core::Core;
     use ltx_model::base::Recovered;
     use ltx_model::commands::{Command, Verb};
     use ltx_model::numbers::{Session, Tx};
     use ltx_model::replies::Reply;
     use ltx_model::rows::StoredList;
+    use ltx_model::tables::TableSet;
     use ltx_outside::{Disk, Failed, MemDisk, MemSink, MemSource, Sink, Source};
     use ltx_text::decimals::put_decimal;
     use ltx_top::run;
@@ -106,125 +121,62 @@ mod tests {
         put_line(out, reply)
     }
 
-    /// Whether the lines are printed with these replies, and then this ending, at status 0, for each width of a read.
-    fn is_printed(alloc: Global, rows: &[(&str, &str)], ending: &str) -> Result<bool, Fail> {
+    /// Whether the lines are printed with these replies, and then the order of these numbers, at status 0, for each width of a read.
+    fn is_printed(alloc: Global, rows: Lines, order: &str) -> Result<bool, Fail> {
         let mut script = Vec::new(alloc);
         let mut text = Vec::new(alloc);
         for (line, reply) in rows {
             put_line(&mut script, line)?;
             put_entry(&mut text, line, reply)?;
         }
-        text.extend_from_slice(ending.as_bytes())?;
+        put_ending(&mut text, 0, order)?;
         for most in MOST_OF_A_READ {
-            let script = Vec::from_slice(alloc, &script)?;
-            let given = called_with(alloc, &["run"], script, most, &[], &[])?;
-            if given.status != 0 || given.printed.as_slice() != text.as_slice() {
+            if !gives(alloc, &script, most, 0, &text)? {
                 return Ok(false);
             }
         }
         Ok(true)
     }
 
-    const A_READ_SEES_A_COMMIT: &[(&str, &str)] = &[
-        ("1 short", "begun 1"),
-        ("1 put 0 x a", "done"),
-        ("1 commit", "committed 1"),
-        ("2 short", "begun 2"),
-        ("2 get 0 x", "found a"),
-        ("2 commit", "committed 1"),
-    ];
+    /// A script, and the numbers that its run prints as the order, each after a space.
+    type Known = (Lines, &'static str);
 
-    const TWO_SHORTS_WRITE_ONE_KEY: &[(&str, &str)] = &[
-        ("1 short", "begun 1"),
-        ("1 put 0 x a", "done"),
-        ("1 commit", "committed 1"),
-        ("1 short", "begun 2"),
-        ("2 short", "begun 3"),
-        ("1 get 0 x", "found a"),
-        ("2 get 0 x", "found a"),
-        ("1 put 0 x b", "done"),
-        ("2 put 0 x c", "done"),
-        ("1 commit", "committed 1"),
-        ("2 commit", "changed 1 0 x 1 2"),
-    ];
-
-    const A_ROW_APPEARS_IN_A_SCANNED_RANGE: &[(&str, &str)] = &[
-        ("1 short", "begun 1"),
-        ("1 scan 0 a m", "rows 0"),
-        ("2 short", "begun 2"),
-        ("2 put 0 c v", "done"),
-        ("2 commit", "committed 1"),
-        ("1 put 0 z w", "done"),
-        ("1 commit", "changed 1 0 c none 2"),
-    ];
-
-    const A_ROW_CAME_AND_WENT: &[(&str, &str)] = &[
-        ("1 short", "begun 1"),
-        ("1 get 0 x", "none"),
-        ("2 short", "begun 2"),
-        ("2 put 0 x v", "done"),
-        ("2 commit", "committed 1"),
-        ("3 short", "begun 3"),
-        ("3 del 0 x", "done"),
-        ("3 commit", "committed 1"),
-        ("1 put 0 y w", "done"),
-        ("1 commit", "committed 1"),
-    ];
-
-    const OWN_WRITES_AND_ESCAPES: &[(&str, &str)] = &[
-        ("1 short", "begun 1"),
-        ("1 put 0 b 2", "done"),
-        ("1 put 0 a%20b %", "done"),
-        ("1 del 0 b", "done"),
-        ("1 get 0 b", "none"),
-        ("1 scan 0 % %", "rows 1 a%20b %"),
-        ("1 get 0 a%20b", "found %"),
-        ("1 commit", "committed 1"),
+    const KNOWN: &[Known] = &[
+        (NOTHING, ""),
+        (A_READ_SEES_A_COMMIT, " 1 2"),
+        (TWO_SHORTS_WRITE_ONE_KEY, " 1 2"),
+        (A_ROW_APPEARS_IN_A_SCANNED_RANGE, " 2"),
+        (A_ROW_CAME_AND_WENT, " 2 3 1"),
+        (A_TOUCHED_TABLE_IS_HELD_AT_THE_COMMIT, ""),
+        (A_BATCH_BEFORE_ITS_EPOCH, " 1"),
+        (A_BATCH_OUTSIDE_WHAT_IT_DECLARED, " 1"),
+        (A_BATCH_GIVES_UP, " 3 4 5"),
+        (TWO_BATCHES_READ_WHAT_THE_OTHER_WRITES, " 1"),
+        (A_BATCH_BEFORE_ITS_ELDER, " 2 1"),
+        (A_BATCH_THAT_SAW_TOO_MUCH, " 1 2"),
+        (THE_ELDER_GIVES_UP, " 2 3"),
+        (A_FORWARDED_WRITE_UNDER_A_LATER_ONE, " 3 1 2 4"),
+        (A_BATCH_BEFORE_ONE_THAT_IS_REFUSED, " 1 3"),
+        (ONE_TRANSACTION_A_SESSION, ""),
+        (OWN_WRITES_AND_ESCAPES, " 1"),
+        (CONFLICT, " 1 2 4"),
+        (PHANTOM, " 1 3 4"),
+        (ORDERS, " 1 2 3 4"),
+        (SUM, " 1 2 3 5 6"),
+        (FORWARDED, " 1 3 2 5"),
+        (REFUSED, " 1 2 4"),
     ];
 
     #[test]
     fn scripts_are_printed_with_their_replies(rt: HostRuntime) -> Result<(), Fail> {
         let alloc = rt.alloc();
-        assert!(rt; is_printed(alloc, &[], "order\ndurable 0\n")?);
-        assert!(rt; is_printed(alloc, A_READ_SEES_A_COMMIT, "order 1 2\ndurable 0\n")?);
-        assert!(rt; is_printed(alloc, TWO_SHORTS_WRITE_ONE_KEY, "order 1 2\ndurable 0\n")?);
-        assert!(rt;
-            is_printed(
-                alloc,
-                A_ROW_APPEARS_IN_A_SCANNED_RANGE,
-                "order 2\ndurable 0\n"
-            )?
-        );
-        assert!(rt; is_printed(alloc, A_ROW_CAME_AND_WENT, "order 2 3 1\ndurable 0\n")?);
-        assert!(rt; is_printed(alloc, OWN_WRITES_AND_ESCAPES, "order 1\ndurable 0\n")?);
-        assert!(rt; is_printed(alloc, CONFLICT, "order 1 2 4\ndurable 0\n")?);
-        assert!(rt; is_printed(alloc, PHANTOM, "order 1 3 4\ndurable 0\n")?);
-        assert!(rt; is_printed(alloc, ORDERS, "order 1 2 3\ndurable 0\n")?);
-        Ok(())
-    }
-
-    const BAD_LINES: &[(&str, &str)] = &[
-        ("", "bad words"),
-        ("1  short", "bad words"),
-        ("epoch 2", "bad words"),
-        ("0 short", "bad session"),
-        ("1025 short", "bad session"),
-        ("1", "bad verb"),
-        ("1 fly", "bad verb"),
-        ("1 get 0", "bad words"),
-        ("1 get 64 x", "bad table"),
-        ("1 get 0 a%2fb", "bad key"),
-        ("1 get 0 %41", "bad key"),
-        ("1 long W=1,1", "bad sets"),
-        ("1 long W=1 R=*", "bad sets"),
-    ];
-
-    #[test]
-    fn bad_lines_have_their_causes(rt: HostRuntime) -> Result<(), Fail> {
-        let alloc = rt.alloc();
+        for (rows, order) in KNOWN {
+            assert!(rt; is_printed(alloc, rows, order)?);
+        }
+        // Bad lines between good ones, and a line that is too long, which is the second one, so that in one of the runs it
+        // is held whole.
         let mut script = Vec::new(alloc);
         let mut text = Vec::new(alloc);
-        // The long line is the second one, so that in one of the runs it is held whole.
         put_line(&mut script, "1 get 0 x")?;
         put_entry(&mut text, "1 get 0 x", "notx")?;
         script.extend_from_slice(&vec![in alloc; b'a'; 4_097]?)?;
@@ -240,12 +192,9 @@ mod tests {
         put_entry(&mut text, "?", "bad value")?;
         put_line(&mut script, "1 get 0 x")?;
         put_entry(&mut text, "1 get 0 x", "notx")?;
-        text.extend_from_slice(b"order\ndurable 0\n")?;
+        put_ending(&mut text, 0, "")?;
         for most in MOST_OF_A_READ {
-            let script = Vec::from_slice(alloc, &script)?;
-            let given = called_with(alloc, &["run"], script, most, &[], &[])?;
-            assert_eq!(rt; given.status, 1);
-            assert_eq!(rt; given.printed.as_slice(), text.as_slice());
+            assert!(rt; gives(alloc, &script, most, 1, &text)?);
         }
         Ok(())
     }
@@ -310,17 +259,14 @@ mod tests {
         Ok(())
     }
 
-    /// Lines that are given for each number of a range, with their replies. In both `#` stands for the number, `$` for it with
-    /// five digits, and `@` for 7,919 times the number, modulo 10,000, with five digits.
-    type Part = (u32, u32, &'static [(&'static str, &'static str)]);
+    /// The places of a number with five digits.
+    const PLACES: [u32; 5] = [10_000, 1_000, 100, 10, 1];
 
-    /// A script at a limit, and how many transactions its order has, in order of their numbers.
-    type Limit = (&'static [Part], u32);
-
-    /// Appends a number with five digits.
-    fn put_five(out: &mut Vec<u8>, n: u32) -> Result<(), Fail> {
-        for unit in [10_000, 1_000, 100, 10, 1] {
-            out.push(b'0' + (n / unit % 10) as u8)?;
+    /// Appends the digits of a number at these places.
+    fn put_digits(out: &mut Vec<u8>, places: &[u32], n: u32) -> Result<(), Fail> {
+        for place in places {
+            let digit = n.checked_div(*place).unwrap_or(0) % 10;
+            out.push(b'0' + digit as u8)?;
         }
         Ok(())
     }
@@ -330,8 +276,10 @@ mod tests {
         for byte in template.as_bytes() {
             match byte {
                 b'#' => put_decimal(u64::from(n), out)?,
-                b'$' => put_five(out, n)?,
-                b'@' => put_five(out, n.wrapping_mul(7_919) % 10_000)?,
+                b'^' => put_decimal(u64::from(n.wrapping_add(3)), out)?,
+                b'&' => put_digits(out, &PLACES[2..], n)?,
+                b'$' => put_digits(out, &PLACES, n)?,
+                b'@' => put_digits(out, &PLACES, n.wrapping_mul(7_919) % 10_000)?,
                 _ => out.push(*byte)?,
             }
         }
@@ -354,131 +302,92 @@ mod tests {
         Ok(())
     }
 
-    /// Appends the ending of a run whose order is the numbers to this one, and that made nothing durable.
-    fn put_ending(text: &mut Vec<u8>, to: u32) -> Result<(), Fail> {
+    /// Appends the ending of a run whose order is the numbers to this one and then those after it, each after a space, and that
+    /// made nothing durable.
+    fn put_ending(text: &mut Vec<u8>, to: u32, after: &str) -> Result<(), Fail> {
         text.extend_from_slice(b"order")?;
         for n in 1..=to {
             put_with(text, " #", n)?;
         }
+        text.extend_from_slice(after.as_bytes())?;
         text.extend_from_slice(b"\ndurable 0\n")?;
         Ok(())
     }
 
-    const LIMITS: &[Limit] = &[
-        // A session has one open transaction.
-        (
-            &[(
-                0,
-                1,
-                &[
-                    ("1 short", "begun 1"),
-                    ("1 short", "hastx"),
-                    ("1 abort", "aborted"),
-                ],
-            )],
-            0,
-        ),
-        // A row that was read is gone at the commit.
-        (
-            &[(
-                0,
-                1,
-                &[
-                    ("1 short", "begun 1"),
-                    ("1 put 0 x v", "done"),
-                    ("1 commit", "committed 1"),
-                    ("2 short", "begun 2"),
-                    ("2 del 0 x", "done"),
-                    ("3 short", "begun 3"),
-                    ("3 get 0 x", "found v"),
-                    ("2 commit", "committed 1"),
-                    ("3 put 0 y w", "done"),
-                    ("3 commit", "changed 1 0 x 1 none"),
-                ],
-            )],
-            2,
-        ),
-        // As many operations as a transaction may have, and one more; the transaction goes on without it.
-        (
-            &[
-                (0, 1, &[("1 short", "begun 1")]),
-                (0, 65_536, &[("1 put 0 x v#", "done")]),
-                (
-                    0,
-                    1,
-                    &[("1 get 0 x", "limit ops"), ("1 commit", "committed 1")],
-                ),
-            ],
-            1,
-        ),
-        // All sessions at once.
-        (
-            &[
-                (1, 1_025, &[("# short", "begun #")]),
-                (1, 1_025, &[("# get 0 k", "none"), ("# put 1 k$ v", "done")]),
-                (1, 1_025, &[("# commit", "committed 1")]),
-            ],
-            1_024,
-        ),
-        // A commit of 20,000 writes.
-        (
-            &[
-                (0, 1, &[("1 short", "begun 1")]),
-                (0, 20_000, &[("1 put 0 k$ v$", "done")]),
-                (0, 1, &[("1 commit", "committed 1"), ("2 short", "begun 2")]),
-                (0, 20_000, &[("2 get 0 k$", "found v$")]),
-            ],
-            1,
-        ),
-        // 300 commits of one key, then a read of it in each of ten sessions.
-        (
-            &[
-                (
-                    1,
-                    301,
-                    &[
-                        ("1 short", "begun #"),
-                        ("1 put 0 x v#", "done"),
-                        ("1 commit", "committed 1"),
-                    ],
-                ),
-                (
-                    301,
-                    311,
-                    &[
-                        ("# short", "begun #"),
-                        ("# get 0 x", "found v300"),
-                        ("# put 1 x w", "done"),
-                        ("# commit", "committed 1"),
-                    ],
-                ),
-            ],
-            310,
-        ),
-    ];
-
-    const SHUFFLED: &[Part] = &[
-        (
-            1,
-            10_001,
-            &[
-                ("1 short", "begun #"),
-                ("1 put 0 @ v", "done"),
-                ("1 commit", "committed 1"),
-            ],
-        ),
-        (10_001, 10_002, &[("1 short", "begun #")]),
-    ];
-
-    /// What a core over no rows answers to the first begin of a short, where this is the last number before.
-    fn begun_after(alloc: Global, last: u64) -> Result<Reply, Fail> {
+    /// A core over no rows, with this durable epoch and last number.
+    fn core_after(alloc: Global, durable: u32, last: u64) -> Result<Core, Fail> {
         let rows = StoredList::from_vec(Vec::new(alloc));
-        let Ok(base) = Recovered::new(rows, 0, last) else {
+        let Ok(base) = Recovered::new(rows, durable, last) else {
             return Err(Fail::from(last));
         };
-        let mut core = Core::new(alloc, base)?;
+        Ok(Core::new(alloc, base)?)
+    }
+
+    /// What the core answers to a verb of the first session.
+    fn asked(core: &mut Core, verb: Verb) -> Result<Reply, Fail> {
         let session = Session::new(1).ok_or(1u16)?;
-        Ok(core.step(&Command::Ask(session, Verb::Short))?)
+        Ok(core.step(&Command::Ask(session, verb))?)
+    }
+
+    /// The begin of a batch that reads and writes nothing.
+    fn a_batch() -> Verb {
+        Verb::Long {
+            writes: TableSet::empty(),
+            reads: TableSet::empty(),
+        }
+    }
+
+    /// Whether the last number is given, and no further one, to shorts and to batches.
+    fn has_a_last_number(alloc: Global) -> Result<bool, Fail> {
+        let short = asked(&mut core_after(alloc, 0, Tx::LAST - 1)?, Verb::Short)?;
+        let batch = asked(&mut core_after(alloc, 0, Tx::LAST - 1)?, a_batch())?;
+        let mut full = core_after(alloc, 0, Tx::LAST)?;
+        let no_short = asked(&mut full, Verb::Short)?;
+        let no_batch = asked(&mut full, a_batch())?;
+        Ok(
+            matches!(short, Reply::Begun { tx } if tx.number() == Tx::LAST)
+                && matches!(batch, Reply::BegunAt { tx, epoch } if tx.number() == Tx::LAST && epoch == 2)
+                && matches!(no_short, Reply::LimitTx)
+                && matches!(no_batch, Reply::LimitTx),
+        )
+    }
+
+    /// Whether a batch becomes live in the last epoch, and commits there.
+    fn reaches_the_last_epoch(core: &mut Core) -> Result<bool, Fail> {
+        let batch = asked(core, a_batch())?;
+        let last = core.step(&Command::Epoch)?;
+        let home = asked(core, Verb::Commit)?;
+        Ok(
+            matches!(batch, Reply::BegunAt { epoch, .. } if epoch == 4_294_967_294)
+                && matches!(last, Reply::Advanced { epoch } if epoch == 4_294_967_294)
+                && matches!(home, Reply::Committed { epoch } if epoch == 4_294_967_294),
+        )
+    }
+
+    /// Whether no epoch follows the last one and no batch begins in it.
+    fn has_no_later_epoch(core: &mut Core) -> Result<bool, Fail> {
+        let no_epoch = core.step(&Command::Epoch)?;
+        let no_batch = asked(core, a_batch())?;
+        Ok(matches!(no_epoch, Reply::LimitEpoch) && matches!(no_batch, Reply::LimitEpoch))
+    }
+
+    /// Whether shorts go on in the last epoch.
+    fn has_shorts_in_the_last_epoch(core: &mut Core) -> Result<bool, Fail> {
+        let short = asked(core, Verb::Short)?;
+        let commit = asked(core, Verb::Commit)?;
+        Ok(
+            matches!(short, Reply::Begun { .. })
+                && matches!(commit, Reply::Committed { epoch } if epoch == 4_294_967_294),
+        )
+    }
+
+    /// Whether the last epoch is reached, and in it no batch begins and shorts go on.
+    fn has_a_last_epoch(alloc: Global) -> Result<bool, Fail> {
+        let mut core = core_after(alloc, Recovered::LAST_EPOCH - 1, 0)?;
+        let reached = reaches_the_last_epoch(&mut core)?;
+        let last = has_no_later_epoch(&mut core)?;
+        let shorts = has_shorts_in_the_last_epoch(&mut core)?;
+        Ok(reached && last && shorts)
     }
 
     /// Whether a run of this script, of which a read gives so much, ends at this status and prints this text.
@@ -494,25 +403,28 @@ mod tests {
         Ok(given.status == status && given.printed.as_slice() == text)
     }
 
-    #[test]
-    fn runs_at_the_limits(rt: HostRuntime) -> Result<(), Fail> {
-        let alloc = rt.alloc();
-        // The last number is given, and no further one.
-        let Reply::Begun { tx } = begun_after(alloc, Tx::LAST - 1)? else {
-            return Err(Fail::from(Tx::LAST));
-        };
-        assert_eq!(rt; tx.number(), 9_223_372_036_854_775_807);
-        assert!(rt; matches!(begun_after(alloc, Tx::LAST)?, Reply::LimitTx));
-        for (parts, order) in LIMITS {
-            let mut script = Vec::new(alloc);
-            let mut text = Vec::new(alloc);
-            for part in *parts {
-                put_part(&mut script, &mut text, part)?;
-            }
-            put_ending(&mut text, *order)?;
-            assert!(rt; gives(alloc, &script, 100_000, 0, &text)?);
+    /// Whether a thousand accounts are added up beside shorts that move money.
+    fn sums_beside_shorts(alloc: Global) -> Result<bool, Fail> {
+        let mut script = Vec::new(alloc);
+        let mut text = Vec::new(alloc);
+        for part in ACCOUNTS {
+            put_part(&mut script, &mut text, part)?;
         }
-        // Commits of 10,000 rows in random order, a scan of 2,000 of them, and a read of each.
+        put_line(&mut script, "2 scan 1 % %")?;
+        text.extend_from_slice(b"2 scan 1 % % => rows 1000")?;
+        for n in 0..1_000 {
+            put_with(&mut text, " a& 100", n)?;
+        }
+        text.push(b'\n')?;
+        for part in TRANSFERS {
+            put_part(&mut script, &mut text, part)?;
+        }
+        put_ending(&mut text, 12, " 14")?;
+        gives(alloc, &script, 100_000, 0, &text)
+    }
+
+    /// Whether commits of 10,000 rows in random order leave them in order: a scan of 2,000 of them, and a read of each.
+    fn keeps_rows_in_order(alloc: Global) -> Result<bool, Fail> {
         let mut script = Vec::new(alloc);
         let mut text = Vec::new(alloc);
         for part in SHUFFLED {
@@ -529,9 +441,8 @@ mod tests {
             &mut text,
             &(0, 10_000, &[("1 get 0 $", "found v")]),
         )?;
-        put_ending(&mut text, 10_000)?;
-        assert!(rt; gives(alloc, &script, 100_000, 0, &text)?);
-        Ok(())
+        put_ending(&mut text, 10_000, "")?;
+        gives(alloc, &script, 100_000, 0, &text)
     }
 
     /// A text that is so many times the same.
@@ -543,33 +454,23 @@ mod tests {
         Ok(out)
     }
 
-    /// The front of a line and what fills it up to 4,096 bytes, how often, and its cause.
-    const FULL_LINES: &[(&str, &str, u32, &str)] = &[
-        ("", " ", 4_096, "bad words"),
-        ("", "9", 4_096, "bad session"),
-        ("epoch ", "a", 4_090, "bad words"),
-        ("1 ", "a", 4_094, "bad verb"),
-        ("1 get ", "0", 4_090, "bad words"),
-        ("1 scan 0 % ", "a", 4_085, "bad key"),
-        ("1 del 0 ", "a", 4_088, "bad key"),
-        ("1 put 0 k ", "%00", 1_362, "bad value"),
-        ("1 long W=", "1", 4_087, "bad sets"),
-        ("1 long W=- R=", "1", 4_083, "bad sets"),
-    ];
-
-    #[test]
-    fn long_lines_and_much_text(rt: HostRuntime) -> Result<(), Fail> {
-        let alloc = rt.alloc();
-        let mut script = Vec::new(alloc);
-        let mut text = Vec::new(alloc);
+    /// Appends lines as long as a line may be, and their entries.
+    fn put_full_lines(alloc: Global, script: &mut Vec<u8>, text: &mut Vec<u8>) -> Result<(), Fail> {
         for (front, fill, count, cause) in FULL_LINES {
             let line = many(alloc, front, fill, *count)?;
-            assert_eq!(rt; line.len(), 4_096);
             script.extend_from_slice(&line)?;
             script.push(b'\n')?;
-            put_entry(&mut text, "?", cause)?;
+            put_entry(text, "?", cause)?;
         }
-        // A value whose bytes are all escaped, and more text between two reads than is gathered.
+        Ok(())
+    }
+
+    /// Whether long lines are read, and a value whose bytes are all escaped is printed, also where more text comes between two
+    /// reads than is gathered.
+    fn prints_much_text(alloc: Global) -> Result<bool, Fail> {
+        let mut script = Vec::new(alloc);
+        let mut text = Vec::new(alloc);
+        put_full_lines(alloc, &mut script, &mut text)?;
         let value = many(alloc, "", "%FF", 1_024)?;
         put_part(&mut script, &mut text, &(0, 1, &[("1 short", "begun 1")]))?;
         script.extend_from_slice(b"1 put 0 k ")?;
@@ -584,10 +485,30 @@ mod tests {
             text.extend_from_slice(&value)?;
             text.push(b'\n')?;
         }
-        put_ending(&mut text, 0)?;
-        for most in MOST_OF_A_READ {
-            assert!(rt; gives(alloc, &script, most, 1, &text)?);
+        put_ending(&mut text, 0, "")?;
+        Ok(
+            gives(alloc, &script, MOST_OF_A_READ[0], 1, &text)?
+                && gives(alloc, &script, MOST_OF_A_READ[1], 1, &text)?,
+        )
+    }
+
+    #[test]
+    fn runs_at_the_limits(rt: HostRuntime) -> Result<(), Fail> {
+        let alloc = rt.alloc();
+        assert!(rt; has_a_last_number(alloc)?);
+        assert!(rt; has_a_last_epoch(alloc)?);
+        for (parts, order) in LIMITS {
+            let mut script = Vec::new(alloc);
+            let mut text = Vec::new(alloc);
+            for part in *parts {
+                put_part(&mut script, &mut text, part)?;
+            }
+            put_ending(&mut text, *order, "")?;
+            assert!(rt; gives(alloc, &script, 100_000, 0, &text)?);
         }
+        assert!(rt; sums_beside_shorts(alloc)?);
+        assert!(rt; keeps_rows_in_order(alloc)?);
+        assert!(rt; prints_much_text(alloc)?);
         Ok(())
     }
 }

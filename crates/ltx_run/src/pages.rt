@@ -21,7 +21,7 @@ Commands (S: session, 1 to 1024; T: table, 0 to 63; K: key, 1 to 64 bytes; V: va
   flush                  make closed epochs durable
   prune                  drop what no later reply needs
 
-long, flush and prune are not built yet: they are answered `later`.
+Not built yet, and answered `later`: flush and prune.
 
 Words are joined by single spaces. In a word a byte from 33 to 126 other than % stands for itself, every other byte is
 %HH with two upper-case hexadecimal digits, and the empty string is %. A SET is *, -, or numbers such as 0,7,63.

@@ -1,7 +1,7 @@
 //! A short transaction: its number, and its notes for the check at its commit and for the records.
 
 ghost use Rattle.std.specs.Prelude.{◌≡◌, ◌<◌, ◌≤◌, ℕ, List, [], ◌∷◌, ◌++◌, length, OnOk, OnErr, Some, None};
-ghost use Rattle.std.specs.List.{list_any};
+ghost use Rattle.std.specs.List.{list_any, AllByRecursion};
 ghost use Rattle.ltx_model.specs.Limits.{most_operations};
 ghost use Rattle.ltx_model.specs.NoteLists.{no_notes, is_of_table, looks_into_table};
 ghost use Rattle.ltx_model.specs.Tables.{has_table};
@@ -11,7 +11,7 @@ ghost use Rattle.ltx_short.specs.Shorts.{short_with, noted, marked};
 use ltx_model::bytes::{Bound, Key};
 use ltx_model::looked::{Looked, Noted};
 use ltx_model::memory::NoMemory;
-use ltx_model::notes::Notes;
+use ltx_model::notes::{Marks, Notes};
 use ltx_model::numbers::{Table, Tx};
 use ltx_model::tables::TableSet;
 use ltx_model::writes::Look;
@@ -104,9 +104,19 @@ impl ShortTx {
         self.notes.count()
     }
 
+    /// The marks of the notes, in order.
+    pub fn marks(&self) -> Marks<'_>
+        ensures value { result ≡ self.now.marks }
+        ensures count { length result ≡ length self.now.notes }
+        ensures limit { length self.now.notes ≤ most_operations }
+    {
+        self.notes.marks()
+    }
+
     /// The tables that operations touched.
     pub fn touched(&self) -> TableSet
-        ensures { (t : ℕ) → t < 64 → has_table result t ≡ list_any (is_of_table t) self.now.notes }
+        ensures members { (t : ℕ) → t < 64 → has_table result t ≡ list_any (is_of_table t) self.now.notes }
+        ensures within { AllByRecursion (λ note. note.table < 64) self.now.notes }
     {
         self.notes.touched()
     }

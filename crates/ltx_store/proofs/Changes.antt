@@ -13,7 +13,7 @@ use Rattle.ltx_model.specs.Operations.{cell_of_write}
 use Rattle.ltx_chain.specs.declared.chain.Version.{Version}
 use Rattle.ltx_chain.specs.Versions.{Versions, AreBelow, latest, visible, is_at_most}
 use Rattle.ltx_chain.proofs.Seen.{latest-append, visible-append, visible_latest}
-use Rattle.ltx_store.specs.Kept.{Kept, cell_of_kept, kept_at, chain_at, items_of, room_of, installed, versions_at, room_at, row_of_version, row_by, rows_by, rows_at, latest_rows, rows_with, row_of_write, with_version, HasSameVersions, HasLoaded, AreUpTo}
+use Rattle.ltx_store.specs.Kept.{Kept, cell_of_kept, kept_at, chain_at, items_of, room_of, installed, versions_at, room_at, row_of_version, row_by, rows_by, rows_at, latest_rows, rows_with, row_of_write, with_version, HasSameVersions, HasLoaded, AreUpTo, AreUpToEach}
 use Rattle.ltx_model.proofs.CellOrder.{same_cell_same, cell_itself}
 use Rattle.ltx_store.proofs.Rows.{row_at-rows, rows_rising, rows-put, rows_with_same, kept_at-put, found_cell}
 
@@ -42,22 +42,30 @@ chain_by e kept q false = refl
 pub chain_at-put : (e : Kept) (kept : List Kept) (q : Cell) → chain_at (put_in_order cell_of_kept e kept) q ≡ cond (same_cell (cell_of_kept e) q) (Some e.versions) (chain_at kept q)
 chain_at-put e kept q = ap (option_map (λ k. k.versions)) (kept_at-put e kept q) ∙ chain_by e kept q (same_cell (cell_of_kept e) q)
 
--- a version with a mark up to this one keeps all marks up to it
-up_to_put : (mark : ℕ) (e : Kept) (kept : List Kept) → AllByRecursion (λ v. v.mark ≤ mark) e.versions.items → AreUpTo mark kept → AreUpTo mark (put_in_order cell_of_kept e kept)
-up_to_put mark e [] own all = (own, tt)
-up_to_put mark e (y ∷ ys) own all = by_cmp (cell_cmp (cell_of_kept e) (cell_of_kept y)) (up_to_put mark e ys own all.1) where
-  by_cmp : (o : Ordering) → AreUpTo mark (put_in_order cell_of_kept e ys) → AreUpTo mark (put_at o e y ys (put_in_order cell_of_kept e ys))
+-- a key whose versions have marks within its table's limit keeps all marks within the limits
+pub each_put : (limit : ℕ → ℕ) (e : Kept) (kept : List Kept) → AllByRecursion (λ v. v.mark ≤ limit e.table) e.versions.items → AreUpToEach limit kept → AreUpToEach limit (put_in_order cell_of_kept e kept)
+each_put limit e [] own all = (own, tt)
+each_put limit e (y ∷ ys) own all = by_cmp (cell_cmp (cell_of_kept e) (cell_of_kept y)) (each_put limit e ys own all.1) where
+  by_cmp : (o : Ordering) → AreUpToEach limit (put_in_order cell_of_kept e ys) → AreUpToEach limit (put_at o e y ys (put_in_order cell_of_kept e ys))
   by_cmp Less rest = (own, all)
   by_cmp Equal rest = (own, all.1)
   by_cmp Greater rest = (all.0, rest)
 
 -- so do all versions of each key
+pub each_items : (limit : ℕ → ℕ) (kept : List Kept) (c : Cell) → AreUpToEach limit kept → AllByRecursion (λ v. v.mark ≤ limit c.table) (versions_at kept c)
+each_items limit [] c all = tt
+each_items limit (e ∷ es) c all = by_test (same_cell (cell_of_kept e) c) refl (each_items limit es c all.1) where
+  by_test : (b : Bool) → same_cell (cell_of_kept e) c ≡ b → AllByRecursion (λ v. v.mark ≤ limit c.table) (versions_at es c)
+      → AllByRecursion (λ (v : Version). v.mark ≤ limit c.table) (items_of (option_map (λ (k : Kept). k.versions) (cond b (Some e) (kept_at es c))))
+  by_test true same rest = subst (λ (d : Cell). AllByRecursion (λ (v : Version). v.mark ≤ limit d.table) e.versions.items) (same_cell_same (cell_of_kept e) c same) all.0
+  by_test false apart rest = rest
+
+-- the same with one limit for all tables
+up_to_put : (mark : ℕ) (e : Kept) (kept : List Kept) → AllByRecursion (λ v. v.mark ≤ mark) e.versions.items → AreUpTo mark kept → AreUpTo mark (put_in_order cell_of_kept e kept)
+up_to_put mark e kept own all = each_put (λ table. mark) e kept own all
+
 pub up_to_items : (mark : ℕ) (kept : List Kept) (c : Cell) → AreUpTo mark kept → AllByRecursion (λ v. v.mark ≤ mark) (versions_at kept c)
-up_to_items mark [] c all = tt
-up_to_items mark (e ∷ es) c all = by_test (same_cell (cell_of_kept e) c) (up_to_items mark es c all.1) where
-  by_test : (b : Bool) → AllByRecursion (λ v. v.mark ≤ mark) (versions_at es c) → AllByRecursion (λ (v : Version). v.mark ≤ mark) (items_of (option_map (λ (k : Kept). k.versions) (cond b (Some e) (kept_at es c))))
-  by_test true rest = all.0
-  by_test false rest = rest
+up_to_items mark kept c all = each_items (λ table. mark) kept c all
 
 -- the same versions, and as much room or more
 pub same_put : (e : Kept) (kept : List Kept) → IsRising cell_of_kept kept → e.versions.items ≡ versions_at kept (cell_of_kept e) → room_at kept (cell_of_kept e) ≤ e.versions.room → HasSameVersions kept (put_in_order cell_of_kept e kept)
@@ -144,7 +152,7 @@ pub latest_at : (mark : ℕ) (kept : List Kept) → AreUpTo mark kept → rows_a
 latest_at mark [] all = refl
 latest_at mark (e ∷ es) all = rw (visible_latest mark e.versions.items all.0) (ap (cons_option (row_by latest e)) (latest_at mark es all.1))
 
-up_to_push : (mark : ℕ) (vs : List Version) (v : Version) → AllByRecursion (λ w. w.mark ≤ mark) vs → v.mark ≤ mark → AllByRecursion (λ w. w.mark ≤ mark) (vs ++ v ∷ [])
+pub up_to_push : (mark : ℕ) (vs : List Version) (v : Version) → AllByRecursion (λ w. w.mark ≤ mark) vs → v.mark ≤ mark → AllByRecursion (λ w. w.mark ≤ mark) (vs ++ v ∷ [])
 up_to_push mark [] v all le = (le, tt)
 up_to_push mark (w ∷ ws) v all le = (all.0, up_to_push mark ws v all.1 le)
 

@@ -1,4 +1,5 @@
 pub mod Changes
+pub mod FromMarks
 pub mod InPlace
 pub mod Looks
 pub mod NextPuts

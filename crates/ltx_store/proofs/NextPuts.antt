@@ -1,5 +1,5 @@
 -- The next key with a row, found by a walk.
-use Rattle.std.proofs.Common.{◌≡◌, ℕ, Bool, true, List, [], ◌∷◌, Some, None, refl, sym, ap, ◌∙◌, subst, inl, inr, cond}
+use Rattle.std.proofs.Common.{◌≡◌, ℕ, Bool, List, [], ◌∷◌, Some, None, refl, sym, ap, ◌∙◌, subst, cond}
 use Rattle.std.specs.List.{AllByRecursion}
 use Rattle.std.specs.List.Sorted.{IsStrictlySortedBy}
 use Rattle.std.specs.Map.{keys_of}
@@ -10,7 +10,6 @@ use Rattle.std.specs.Cmp.{tied_itself}
 use Rattle.std.specs.Cmp.Lexicographic.{nat_list_cmp_total}
 use Rattle.ltx_model.specs.Keys.{key_cmp}
 use Rattle.ltx_index.specs.Pairs.{IsInOrder, value_at, pairs_from}
-use Rattle.ltx_model.specs.NextKeys.{reaches}
 use Rattle.ltx_model.proofs.KeyOrder.{same_keys}
 use Rattle.ltx_index.proofs.Lookups.{value_at-pairs_from, value_at-lesser, all_reach, in_order-pairs_from}
 use Rattle.ltx_chain.specs.Versions.{Versions, latest}

@@ -1,5 +1,5 @@
 -- A table in its place among all, and what is kept after it changed.
-use Rattle.std.proofs.Common.{◌≡◌, ℕ, zero, suc, ◌+◌, ◌<◌, ◌≤◌, List, [], ◌∷◌, ◌++◌, length, Some, Result, Ok, Err, refl, sym, ap, ◌∙◌, subst, arith, slice_set, get_or}
+use Rattle.std.proofs.Common.{◌≡◌, ℕ, zero, suc, ◌+◌, ◌<◌, ◌≤◌, List, [], ◌∷◌, ◌++◌, length, Option, Some, Result, Ok, Err, refl, sym, ap, ◌∙◌, subst, arith, slice_set, get_or}
 use Rattle.std.proofs.lemmas.List.{set-get_or, length-set}
 use Rattle.ltx_model.proofs.CellOrder.{cell_itself}
 use Rattle.std.specs.List.{AllByRecursion}
@@ -11,10 +11,10 @@ use Rattle.ltx_model.specs.Keys.{put_in_order, IsRising}
 use Rattle.ltx_index.specs.Pairs.{IsInOrder, value_at, with_pair}
 use Rattle.ltx_chain.specs.declared.chain.Version.{Version}
 use Rattle.ltx_chain.specs.Versions.{Versions}
-use Rattle.ltx_store.specs.Kept.{Kept, cell_of_kept, chain_at, items_of, room_of, installed, room_at, versions_at, HasSameVersions, HasLoaded, of_table, of_tables, IsTables}
+use Rattle.ltx_store.specs.Kept.{Kept, cell_of_kept, chain_at, items_of, room_of, installed, room_at, versions_at, HasSameVersions, HasLoaded, AreUpToEach, of_table, of_tables, IsTables}
 use Rattle.ltx_store.specs.Pairs.{IsRoomMade, IsLoaded}
 use Rattle.ltx_store.proofs.Tables.{chain_at-of_tables, put-of_tables, rising-of_tables}
-use Rattle.ltx_store.proofs.Changes.{same_put, same_itself, chain_at-put, loaded_put}
+use Rattle.ltx_store.proofs.Changes.{same_put, same_itself, chain_at-put, loaded_put, each_put, each_items, up_to_push}
 
 abbrev pub Pairs : Type 0
 Pairs = List (List ℕ × Versions)
@@ -89,9 +89,12 @@ loaded_in_store {kept} {ts} {i} row new p loaded =
     let is = ap (λ l. of_tables 0 (slice_set ts i l)) loaded.put ∙ put_in_place p row.key loaded.versions in
     subst (λ l. HasLoaded kept l row) (sym is) (loaded_put row loaded.versions kept (kept_rising p) loaded.items)
 
+pub tables_with : (ts : List Pairs) (i : ℕ) (new : Pairs) → IsTables ts → IsInOrder new → IsTables (slice_set ts i new)
+tables_with ts i new tables order = record { count = length-set ts i new ∙ tables.count; in_order = tables_set ts i new tables.in_order order }
+
 -- the tables after a call that changed one of them, or failed
 pub tables_after : (ts : List Pairs) (i : ℕ) (pairs new : Pairs) (r : Result (Unit {0}) NoMemory) → IsTables ts → pairs ≡ get_or ts i pairs → OnOk r (IsInOrder new) → OnErr r (new ≡ pairs) → IsTables (slice_set ts i new)
-tables_after ts i pairs new (Ok u) tables is order same = record { count = length-set ts i new ∙ tables.count; in_order = tables_set ts i new tables.in_order order }
+tables_after ts i pairs new (Ok u) tables is order same = tables_with ts i new tables order
 tables_after ts i pairs new (Err e) tables is order same = subst IsTables (sym (ap (slice_set ts i) (same ∙ is) ∙ set-get_or ts i pairs)) tables
 
 pub loaded_after : {kept : List Kept} {ts : List Pairs} {i : ℕ} {pairs : Pairs} (row : StoredRow) (new : Pairs) (r : Result (Unit {0}) NoMemory) → IsPlace kept ts i row.table pairs
@@ -105,6 +108,35 @@ pub made_after : {kept : List Kept} {ts : List Pairs} {i n : ℕ} {pairs : Pairs
     → OnOk r (0 < room_at (of_tables 0 (slice_set ts i new)) (record { table = n; key = key })) × HasSameVersions kept (of_tables 0 (slice_set ts i new))
 made_after key new (Ok u) p made same = let both = made_in_store p key new made in (both.1, both.0)
 made_after {kept} key new (Err e) p made same = (tt, subst (HasSameVersions kept) (sym (same_in_store p new same)) (same_itself kept))
+
+-- marks within the limits of their tables, after a change of a key
+module _ {kept : List Kept} {ts : List Pairs} {i n : ℕ} {pairs : Pairs} (limit : ℕ → ℕ) (all : AreUpToEach limit (of_tables 0 ts)) (p : IsPlace kept ts i n pairs) where
+  each_kept : AreUpToEach limit kept
+  each_kept = subst (AreUpToEach limit) p.kept_is all
+
+  -- other versions at a key
+  each_in_place : (key : List ℕ) (v : Versions) (new : Pairs) → new ≡ with_pair pairs key v → AllByRecursion (λ w. w.mark ≤ limit n) v.items → AreUpToEach limit (of_tables 0 (slice_set ts i new))
+  each_in_place key v new is own =
+      subst (AreUpToEach limit) (sym (ap (λ l. of_tables 0 (slice_set ts i l)) is ∙ put_in_place p key v)) (each_put limit (record { table = n; key = key; versions = v }) kept own each_kept)
+
+  -- the versions that a key has
+  each_at : (key : List ℕ) → AllByRecursion (λ w. w.mark ≤ limit n) (items_of (value_at pairs key))
+  each_at key = subst (λ o. AllByRecursion (λ w. w.mark ≤ limit n) (items_of o)) (chain_in_place p key) (each_items limit kept (record { table = n; key = key }) each_kept)
+
+  each_same : (new : Pairs) → new ≡ pairs → AreUpToEach limit (of_tables 0 (slice_set ts i new))
+  each_same new is = subst (AreUpToEach limit) (sym (same_in_store p new is)) each_kept
+
+  pub each_made : (key : List ℕ) (new : Pairs) (r : Result (Unit {0}) NoMemory) → OnOk r (IsRoomMade pairs new key) → OnErr r (new ≡ pairs) → AreUpToEach limit (of_tables 0 (slice_set ts i new))
+  each_made key new (Ok u) made same = each_in_place key made.versions new made.put (subst (AllByRecursion (λ w. w.mark ≤ limit n)) (sym made.items) (each_at key))
+  each_made key new (Err e) made same = each_same new same
+
+  pub each_loaded : (key : List ℕ) (writer : ℕ) (o : Option (List ℕ)) (new : Pairs) (r : Result (Unit {0}) NoMemory) → OnOk r (IsLoaded pairs new key (record { writer = writer; mark = 0; put = o })) → OnErr r (new ≡ pairs)
+      → AreUpToEach limit (of_tables 0 (slice_set ts i new))
+  each_loaded key writer o new (Ok u) loaded same = each_in_place key loaded.versions new loaded.put (subst (AllByRecursion (λ w. w.mark ≤ limit n)) (sym loaded.items) (omega arith, tt))
+  each_loaded key writer o new (Err e) loaded same = each_same new same
+
+  pub each_installed : (key : List ℕ) (version : Version) (new : Pairs) → version.mark ≤ limit n → new ≡ with_pair pairs key (installed (value_at pairs key) version) → AreUpToEach limit (of_tables 0 (slice_set ts i new))
+  each_installed key version new le is = each_in_place key (installed (value_at pairs key) version) new is (up_to_push (limit n) (items_of (value_at pairs key)) version (each_at key) le)
 
 -- empty tables
 pub empty_push : (ts : List Pairs) (pairs : Pairs) → AllByRecursion (λ ps. ps ≡ []) ts → pairs ≡ [] → AllByRecursion (λ ps. ps ≡ []) (ts ++ pairs ∷ [])

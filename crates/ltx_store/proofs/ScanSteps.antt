@@ -1,5 +1,5 @@
 -- A scan's rows and looks, step by step.
-use Rattle.std.proofs.Common.{◌≡◌, ℕ, Bool, true, false, cond, ◌&&◌, ◌||◌, List, [], ◌∷◌, ◌++◌, refl, sym, ap, ◌∙◌, inl, inr, append-nil}
+use Rattle.std.proofs.Common.{◌≡◌, ℕ, Bool, true, false, cond, ◌||◌, List, [], ◌∷◌, ◌++◌, refl, sym, ap, ◌∙◌, inl, inr, append-nil}
 use Rattle.std.specs.List.{AllByRecursion}
 use Rattle.std.specs.List.Sorted.{IsStrictlySortedBy}
 use Rattle.std.specs.Map.{keys_of}
@@ -12,7 +12,7 @@ use Rattle.std.proofs.lemmas.List.{append_assoc}
 use Rattle.std.proofs.lemmas.List.Elements.{filter_map-append}
 use Rattle.ltx_model.specs.declared.rows.Row.{Row}
 use Rattle.ltx_model.specs.declared.writes.Look.{Look}
-use Rattle.ltx_model.specs.Keys.{key_cmp, is_empty, in_range}
+use Rattle.ltx_model.specs.Keys.{key_cmp, is_empty}
 use Rattle.ltx_index.specs.Pairs.{IsInOrder, pairs_from}
 use Rattle.ltx_index.proofs.Lookups.{in_order-pairs_from}
 use Rattle.ltx_chain.specs.Versions.{Versions, visible}

@@ -87,6 +87,10 @@ abbrev pub with_version : ℕ → ℕ → Write → List Kept → List Kept
 with_version writer mark w kept =
     put_in_order cell_of_kept (record { table = w.table; key = w.key; versions = installed (chain_at kept (cell_of_write w)) (record { writer = writer; mark = mark; put = w.put }) }) kept
 
+-- no version has a mark above that of its table
+abbrev pub AreUpToEach : (ℕ → ℕ) → List Kept → Type 0
+AreUpToEach limit kept = AllByRecursion (λ e. AllByRecursion (λ v. v.mark ≤ limit e.table) e.versions.items) kept
+
 -- no version has a mark above this one
 abbrev pub AreUpTo : ℕ → List Kept → Type 0
 AreUpTo mark kept = AllByRecursion (λ e. AllByRecursion (λ v. v.mark ≤ mark) e.versions.items) kept

@@ -14,9 +14,11 @@ ghost use Rattle.ltx_model.specs.Rows.{rows_between};
 ghost use Rattle.ltx_store.specs.Scans.{looks_between};
 ghost use Rattle.ltx_store.specs.Kept.{cell_of_kept, versions_at, room_at, rows_at, latest_rows, rows_with, row_of_version, row_of_write, with_version, HasSameVersions, HasLoaded};
 
+use crate::newest::Newest;
 use crate::scanned::Scanned;
 use crate::table;
 use ltx_chain::chain::{Chain, Version};
+use ltx_chain::marked::Marked;
 use ltx_index::index::Index;
 use ltx_model::bytes::{Bound, Key};
 use ltx_model::latest::Latest;
@@ -31,18 +33,20 @@ use std::marker::Model;
 #[derive(Debug, Drop)]
 pub struct Store {
     tables: Vec<Index<Chain>>,
+    newest: Newest,
 }
 
 // Clauses see the kept keys in order of table and key, each with its versions.
 impl Model for Store {
     ghost use Rattle.std.specs.Prelude.{List};
-    ghost use Rattle.ltx_store.specs.Kept.{Kept, of_tables, IsTables};
+    ghost use Rattle.ltx_store.specs.Kept.{Kept, of_tables};
+    ghost use Rattle.ltx_store.specs.Newest.{IsStore};
 
     ghost Value = { List Kept };
 
     ghost view = { λ s. of_tables 0 s.tables.items };
 
-    ghost invariant = { λ s. IsTables s.tables.items };
+    ghost invariant = { λ s. IsStore s.tables.items s.newest.of_table s.newest.of_all };
 }
 
 impl Store {
@@ -54,7 +58,10 @@ impl Store {
         for _t in 0..Table::COUNT {
             tables.push(Index::new(alloc))?;
         }
-        Ok(Store { tables })
+        Ok(Store {
+            tables,
+            newest: Newest::new(),
+        })
     }
 
     /// Places a base row, as a version with mark 0. After NoMemory nothing has changed.
@@ -149,6 +156,7 @@ impl Store {
         ensures latest { latest_rows self.new ≡ rows_with (cell_of_write write) (row_of_write writer write) (latest_rows self.old) }
     {
         let Write { table, key, put } = write;
+        self.newest.raise(table, mark);
         table::install(
             &mut self.tables[usize::from(table.number())],
             &key,
@@ -172,9 +180,25 @@ impl Latest for Store {
     }
 }
 
+impl Marked for Store {
+    ghost use Rattle.std.specs.Prelude.{◌≡◌};
+    ghost use Rattle.ltx_store.specs.Kept.{rows_at};
+
+    ghost rows_at = { λ mark s. rows_at mark s };
+
+    fn newest_mark(&self) -> u64 {
+        self.newest.of_all()
+    }
+
+    fn newest_mark_of(&self, table: Table) -> u64 {
+        self.newest.of_table(table)
+    }
+}
+
 #[cfg(test)]
 mod tests {
     use super::Store;
+    use ltx_chain::marked::Marked;
     use ltx_model::bytes::{Bound, Key, Value};
     use ltx_model::latest::Latest;
     use ltx_model::numbers::{Table, Tx};
@@ -211,6 +235,10 @@ mod tests {
         }
     }
 
+    fn newest_through_the_bound<L: Marked>(latest: &L, table: Table) -> (u64, u64) {
+        (latest.newest_mark(), latest.newest_mark_of(table))
+    }
+
     #[test]
     fn base_rows_are_seen_at_each_mark(rt: HostRuntime) -> Result<(), Fail> {
         let alloc = rt.alloc();
@@ -242,6 +270,8 @@ mod tests {
         assert_eq!(rt; (before.rows.len(), before.looks.len()), (0, 0));
         assert_eq!(rt; (after.rows.len(), after.looks.len()), (0, 1));
         assert!(rt; store.writer(table(1)?, &key(alloc, b'a')?).is_none());
+        assert_eq!(rt; newest_through_the_bound(&store, table(1)?), (1, 1));
+        assert_eq!(rt; newest_through_the_bound(&store, table(2)?), (1, 0));
         Ok(())
     }
 }

@@ -28,6 +28,7 @@ use Rattle.ltx_text.proofs.LineAsks.{asks_none}
 use Rattle.ltx_text.proofs.LineRuns.{given_all, given_below, given_front, given_taken}
 use Rattle.ltx_top.specs.Transcripts.{line_of_piece, script_lines, entry_text, history_text, ending_of}
 use Rattle.ltx_top.specs.Runs.{Devices, devices, most_of_script, took, is_bad, has_bad, AnswersBefore, AsksOnce, Ran, Stopped, Cut}
+use Rattle.ltx_top.proofs.PromisesKept.{keeps}
 use Rattle.ltx_top.specs.Progress.{Start, Hand, HasAsked, Progress, Halted, IsUnderWay}
 
 pub blank_sound : IsSound blank_base
@@ -358,6 +359,7 @@ module _ (start : Start) (before after : Option (List ℕ)) (reads0 reads1 : Opt
     lines = first_lines next start.old.left after p.given p.history [] all_cuts p.lines;
     legal = p.legal;
     explained = explains start.base p.history p.sound p.legal;
+    promises = keeps start.base p.history p.sound p.legal;
     printed = subst (Appends start.old.written written) (sym (append-nil p.written) ∙ ap (λ (t : List ℕ). p.written ++ t) (sym empty) ∙ p.whole) p.out;
     answered = answered;
     asked = asked_once start.old (devices after reads1 written) next p.given (length p.history) failed all_cuts few (asked_by start before after reads0 reads1 written reader next core text malformed [] failed s p);
@@ -431,6 +433,7 @@ ran start left reads before after hand text none end ends out p = record {
       (Appends-trans start.old.written before after p.written text p.out out);
   ended = end;
   explained = explains start.base p.history p.sound p.legal;
+  promises = keeps start.base p.history p.sound p.legal;
   malformed = p.bad;
   asked = asked_once start.old (devices left reads after) hand.reader p.given (length p.history) 0 p.cuts (omega (arith, ends_most hand.reader)) p.asked;
 }
@@ -444,6 +447,7 @@ stopped_at start now reader given history more front back sound cuts lines legal
   lines = first_lines reader start.old.left now.left given history more cuts lines;
   legal = legal;
   explained = explains start.base history sound legal;
+  promises = keeps start.base history sound legal;
   most = length front;
   printed = subst (Appends start.old.written now.written) (sym (front_text front back) ∙ ap (take (length front)) parts) out;
   whole = whole;

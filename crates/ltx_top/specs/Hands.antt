@@ -6,8 +6,8 @@ use Rattle.ltx_text.specs.Lines.{LinesState}
 use Rattle.ltx_top.specs.declared.responder.Responder.{Responder}
 use Rattle.ltx_top.specs.declared.runner.Runner.{Runner}
 use Rattle.ltx_top.specs.declared.status.Stop.{Stop}
-use Rattle.ltx_top.specs.Runs.{devices}
-use Rattle.ltx_top.specs.Progress.{Hand, Halts, Steps}
+use Rattle.ltx_top.specs.Runs.{Devices, devices}
+use Rattle.ltx_top.specs.Progress.{Hand, Halts, Progress, Start, Steps}
 
 -- a reader and what answers its lines
 abbrev pub hand_with : LinesState → Responder → Hand
@@ -15,6 +15,14 @@ hand_with reader r = record { reader = reader; core = r.core; text = r.text.item
 
 abbrev pub hand_of : Runner → Hand
 hand_of s = hand_with s.lines s.responder
+
+-- a run that began at this start goes on, with no line pending
+abbrev pub GoesOn : Start → Devices → Runner → Type 0
+GoesOn start now run = Progress start now (hand_of run) []
+
+-- a run goes on, wherever it began
+abbrev pub IsGoing : Devices → Runner → Type 0
+IsGoing now run = (start : Start) × GoesOn start now run
 
 -- the pending lines are answered, whatever the source and the reader are, while the sink goes from w to w'
 abbrev pub Responds : Option (List ℕ) → Responder → List Line → Option (List ℕ) → Responder → Type 0

@@ -1,4 +1,10 @@
 pub mod Transcripts
+pub mod SerialOrder
+pub mod DeclaredOrder
+pub mod Spared
+pub mod Priority
+pub mod Refused
+pub mod Promises
 pub mod Runs
 pub mod Endings
 pub mod Progress

@@ -12,6 +12,7 @@ use Rattle.ltx_model.specs.Explained.{IsExplained}
 use Rattle.ltx_core.specs.Built.{built}
 use Rattle.ltx_outside.specs.Reads.{Reads}
 use Rattle.ltx_text.specs.Lines.{feeds}
+use Rattle.ltx_top.specs.Promises.{KeepsPromises}
 use Rattle.ltx_top.specs.Transcripts.{script_lines, history_text, ending_of}
 
 -- the bytes of a script that a run reads at most
@@ -52,7 +53,8 @@ AnswersBefore old new history = IfSome old.left (λ bytes. IfSome old.reads (λ 
     feeds (take (took old.left new.left - after.last) bytes) ≤ length history)))
 
 -- A whole run over a base. Its history has an entry for each line of the bytes that the source had, in order, and is legal; the
--- text of the history and then its ending were written; the source is at its end; and the order explains the history.
+-- text of the history and then its ending were written; the source is at its end; the order explains the history, and the
+-- history keeps what is promised of places, priority and refusals.
 pub record Ran (base : Base) (old new : Devices) (bad : Bool) : Type 0 where
   pub history : List Entry
   pub lines : IfSome old.left (λ bytes. map (λ e. e.line) history ≡ script_lines bytes)
@@ -60,6 +62,7 @@ pub record Ran (base : Base) (old new : Devices) (bad : Bool) : Type 0 where
   pub printed : Appends old.written new.written (history_text history ++ ending_of (state base history))
   pub ended : IsAtEnd new.left
   pub explained : IsExplained base history (order (state base history))
+  pub promises : KeepsPromises base history
   pub malformed : has_bad history ≡ bad
   pub asked : AsksOnce old new
 
@@ -71,6 +74,7 @@ pub record Stopped (base : Base) (old new : Devices) : Type 0 where
   pub lines : IfSome old.left (λ bytes. map (λ e. e.line) history ≡ take (length history) (script_lines bytes))
   pub legal : IsLegalWith built base history
   pub explained : IsExplained base history (order (state base history))
+  pub promises : KeepsPromises base history
   pub most : ℕ
   pub printed : Appends old.written new.written (take most (history_text history ++ ending_of (state base history)))
   pub whole : length (history_text history) < most → IfSome old.left (λ bytes. map (λ e. e.line) history ≡ script_lines bytes)
@@ -84,6 +88,7 @@ pub record Cut (base : Base) (old new : Devices) : Type 0 where
   pub lines : IfSome old.left (λ bytes. map (λ e. e.line) history ≡ take (length history) (script_lines bytes))
   pub legal : IsLegalWith built base history
   pub explained : IsExplained base history (order (state base history))
+  pub promises : KeepsPromises base history
   pub printed : Appends old.written new.written (history_text history)
   pub answered : IfSome old.left (λ bytes. feeds (take (min most_of_script (took old.left new.left)) bytes) ≤ length history)
   pub asked : AsksOnce old new

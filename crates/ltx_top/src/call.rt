@@ -22,13 +22,11 @@ fn run_script<S: Source, K: Sink>(alloc: Global, source: &mut S, sink: &mut K) -
     ensures source_counted { S.faults source.old ≤ S.faults source.new }
     ensures sink_counted { K.faults sink.old ≤ K.faults sink.new }
 {
-    match Runner::new(alloc, Recovered::blank(alloc)) {
-        Err(_) => Err(Stop::NoMemory),
-        Ok(mut runner) => match runner.work(source, sink) {
-            Err(stop) => Err(stop),
-            Ok(()) => Ok(runner.responder.malformed),
-        },
-    }
+    let Ok(mut runner) = Runner::new(alloc, Recovered::blank(alloc)) else {
+        return Err(Stop::NoMemory);
+    };
+    runner.work(source, sink)?;
+    Ok(runner.responder.malformed)
 }
 
 /// The number of each ending.
@@ -50,8 +48,11 @@ fn status_of(ended: Result<bool, Stop>) -> Status
 /// its state in memory: the disk is not called. Each entry is printed before more of the source is read; at the end come
 /// the serial order and the durable epoch. A script has at most 4,294,967,295 bytes.
 ///
-/// Whatever the status, what was printed is a front of the text of a legal history of the first lines and its ending, and the
-/// serial order explains the history.
+/// Whatever the status, what was printed is a front of the text of a legal history of the first lines and its ending. After each
+/// entry the serial order of that moment explains what was answered so far, and its members stay in their places. Batches stand in
+/// the order of their numbers, except those printed as committed before a target. A short that touched a table which a live batch
+/// preserves is refused by name; a batch that overtakes nobody is committed at once; and each refusal and each wait prints a true
+/// witness.
 pub fn run<S: Source, D: Disk, K: Sink>(
     alloc: Global,
     words: &[String],

@@ -1,12 +1,12 @@
 //! The top call: a script is answered line by line, and each entry is printed before more of the script is read.
 #![tactic(auto)]
 
-mod answer;
 mod call;
 mod ending;
 mod entries;
 mod output;
 mod pieces;
+mod reply;
 mod responder;
 mod runner;
 mod serving;

@@ -52,7 +52,7 @@ impl Responder {
 
     /// Answers a line, whose command these bytes spell, and gathers its entry. The gathered text is handed to the sink where
     /// there is much of it.
-    pub fn answer_line<K: Sink>(
+    pub fn respond_to_line<K: Sink>(
         &mut self,
         line: &Line,
         bytes: &[u8],
@@ -76,7 +76,7 @@ impl Responder {
     }
 
     /// Answers the line of these bytes.
-    pub fn answer_bytes<K: Sink>(&mut self, bytes: &[u8], sink: &mut K) -> Result<(), Stop>
+    pub fn respond_to_bytes<K: Sink>(&mut self, bytes: &[u8], sink: &mut K) -> Result<(), Stop>
         requires under_way { IsUnderWay self.old.core }
         ensures on { OnOk result (Responds (K.written sink.old) self.old (line_of bytes.now ∷ []) (K.written sink.new) self.new) }
         ensures stops { IfErr result (λ stop. RespondsNot stop (K.written sink.old) self.old (line_of bytes.now ∷ []) (K.written sink.new) self.new) }
@@ -86,7 +86,7 @@ impl Responder {
     {
         match parse_line(self.alloc, bytes) {
             Err(_) => Err(Stop::NoMemory),
-            Ok(line) => self.answer_line(&line, bytes, sink),
+            Ok(line) => self.respond_to_line(&line, bytes, sink),
         }
     }
 

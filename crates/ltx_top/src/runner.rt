@@ -9,9 +9,9 @@ ghost use Rattle.ltx_text.specs.Lines.{fresh, to_go};
 ghost use Rattle.ltx_text.specs.Pieces.{OnEnd};
 ghost use Rattle.ltx_top.specs.Runs.{Ran, devices, most_of_script, took};
 ghost use Rattle.ltx_top.specs.Endings.{RoseAt, Stops};
-ghost use Rattle.ltx_top.specs.Progress.{Halts, IsUnderWay, Progress, Start, Steps};
+ghost use Rattle.ltx_top.specs.Progress.{Halts, IsUnderWay, Start, Steps};
 ghost use Rattle.ltx_top.specs.Spellings.{lines_in};
-ghost use Rattle.ltx_top.specs.Hands.{Answers, AnswersNot, hand_of};
+ghost use Rattle.ltx_top.specs.Hands.{Answers, AnswersNot, GoesOn, IsGoing, hand_of};
 ghost use Rattle.ltx_text.specs.declared.piece.Piece.TheVariants.{End};
 ghost use Rattle.ltx_top.specs.declared.status.Stop.TheVariants as stops;
 
@@ -52,7 +52,7 @@ impl Runner {
     }
 
     /// Answers the next line where it is held whole: no read is made. False where it is not.
-    fn answer_held<K: Sink>(&mut self, sink: &mut K) -> Result<bool, Stop>
+    fn turn_held<K: Sink>(&mut self, sink: &mut K) -> Result<bool, Stop>
         requires under_way { IsUnderWay self.old.responder.core }
         ensures on { OnOk result (Answers (K.written sink.old) self.old [] (K.written sink.new) self.new) }
         ensures less { IfOk result (λ held. held ≡ true → to_go self.new.lines < to_go self.old.lines) }
@@ -67,13 +67,9 @@ impl Runner {
             return Ok(false);
         };
         let length = bytes.len();
-        match responder.answer_bytes(bytes, sink) {
-            Err(stop) => Err(stop),
-            Ok(()) => {
-                lines.skip_line(length);
-                Ok(true)
-            }
-        }
+        responder.respond_to_bytes(bytes, sink)?;
+        lines.skip_line(length);
+        Ok(true)
     }
 
     /// Takes the next piece by a read, where no whole line is held. The gathered text is handed to the sink before.
@@ -82,7 +78,7 @@ impl Runner {
         source: &mut S,
         sink: &mut K,
     ) -> Result<Piece, Stop>
-        requires under_way { (start : Start) × Progress start (devices (S.left source.old) (S.reads source.old) (K.written sink.old)) (hand_of self.old) [] }
+        requires under_way { IsGoing (devices (S.left source.old) (S.reads source.old) (K.written sink.old)) self.old }
         ensures on { IfOk result (λ piece. Steps (devices (S.left source.old) (S.reads source.old) (K.written sink.old)) (hand_of self.old) []
             (devices (S.left source.new) (S.reads source.new) (K.written sink.new)) (hand_of self.new) (lines_in piece)) }
         ensures ended { IfOk result (λ piece. OnEnd (Ok piece) ((self.new.lines.held ≡ []) × IsAtEnd (S.left source.new))) }
@@ -94,14 +90,12 @@ impl Runner {
         ensures source_counted { S.faults source.old ≤ S.faults source.new }
         ensures sink_counted { K.faults sink.old ≤ K.faults sink.new }
     {
-        match hand_over(&mut self.responder.text, sink) {
-            Err(stop) => Err(stop),
-            Ok(()) => next_piece(&mut self.lines, source),
-        }
+        hand_over(&mut self.responder.text, sink)?;
+        next_piece(&mut self.lines, source)
     }
 
     /// Answers a piece of the script. False at the end of the script.
-    fn answer_piece<K: Sink>(&mut self, piece: Piece, sink: &mut K) -> Result<bool, Stop>
+    fn respond_to_piece<K: Sink>(&mut self, piece: Piece, sink: &mut K) -> Result<bool, Stop>
         requires under_way { IsUnderWay self.old.responder.core }
         ensures on { OnOk result (Answers (K.written sink.old) self.old (lines_in piece) (K.written sink.new) self.new) }
         ensures same { self.new.lines ≡ self.old.lines }
@@ -113,28 +107,23 @@ impl Runner {
         ensures counted { K.faults sink.old ≤ K.faults sink.new }
     {
         match piece {
-            Piece::End => Ok(false),
+            Piece::End => return Ok(false),
             Piece::TooLong => {
                 let line = Line::Bad(Bad::Long);
-                match self.responder.answer_line(&line, &[], sink) {
-                    Err(stop) => Err(stop),
-                    Ok(()) => Ok(true),
-                }
+                self.responder.respond_to_line(&line, &[], sink)?;
             }
-            Piece::Line(bytes) => match self.responder.answer_bytes(&bytes, sink) {
-                Err(stop) => Err(stop),
-                Ok(()) => Ok(true),
-            },
+            Piece::Line(bytes) => self.responder.respond_to_bytes(&bytes, sink)?,
         }
+        Ok(true)
     }
 
     /// Answers the next line, where none is held whole. False at the end of the script.
-    fn answer_read<S: Source, K: Sink>(
+    fn turn_reading<S: Source, K: Sink>(
         &mut self,
         source: &mut S,
         sink: &mut K,
     ) -> Result<bool, Stop>
-        requires under_way { (start : Start) × Progress start (devices (S.left source.old) (S.reads source.old) (K.written sink.old)) (hand_of self.old) [] }
+        requires under_way { IsGoing (devices (S.left source.old) (S.reads source.old) (K.written sink.old)) self.old }
         ensures on { OnOk result (Steps (devices (S.left source.old) (S.reads source.old) (K.written sink.old)) (hand_of self.old) []
             (devices (S.left source.new) (S.reads source.new) (K.written sink.new)) (hand_of self.new) []) }
         ensures ended { IfOk result (λ more. more ≡ false → (self.new.lines.held ≡ []) × IsAtEnd (S.left source.new)) }
@@ -146,15 +135,13 @@ impl Runner {
         ensures source_counted { S.faults source.old ≤ S.faults source.new }
         ensures sink_counted { K.faults sink.old ≤ K.faults sink.new }
     {
-        match self.take_piece(source, sink) {
-            Err(stop) => Err(stop),
-            Ok(piece) => self.answer_piece(piece, sink),
-        }
+        let piece = self.take_piece(source, sink)?;
+        self.respond_to_piece(piece, sink)
     }
 
     /// Answers the next line. False at the end of the script.
     fn turn<S: Source, K: Sink>(&mut self, source: &mut S, sink: &mut K) -> Result<bool, Stop>
-        requires under_way { (start : Start) × Progress start (devices (S.left source.old) (S.reads source.old) (K.written sink.old)) (hand_of self.old) [] }
+        requires under_way { IsGoing (devices (S.left source.old) (S.reads source.old) (K.written sink.old)) self.old }
         ensures on { OnOk result (Steps (devices (S.left source.old) (S.reads source.old) (K.written sink.old)) (hand_of self.old) []
             (devices (S.left source.new) (S.reads source.new) (K.written sink.new)) (hand_of self.new) []) }
         ensures ended { IfOk result (λ more. more ≡ false → (self.new.lines.held ≡ []) × IsAtEnd (S.left source.new)) }
@@ -166,16 +153,15 @@ impl Runner {
         ensures source_counted { S.faults source.old ≤ S.faults source.new }
         ensures sink_counted { K.faults sink.old ≤ K.faults sink.new }
     {
-        match self.answer_held(sink) {
-            Err(stop) => Err(stop),
-            Ok(true) => Ok(true),
-            Ok(false) => self.answer_read(source, sink),
+        if self.turn_held(sink)? {
+            return Ok(true);
         }
+        self.turn_reading(source, sink)
     }
 
     /// Answers all lines.
     fn answer_all<S: Source, K: Sink>(&mut self, source: &mut S, sink: &mut K) -> Result<(), Stop>
-        requires under_way { (start : Start) × Progress start (devices (S.left source.old) (S.reads source.old) (K.written sink.old)) (hand_of self.old) [] }
+        requires under_way { IsGoing (devices (S.left source.old) (S.reads source.old) (K.written sink.old)) self.old }
         ensures on { OnOk result (Steps (devices (S.left source.old) (S.reads source.old) (K.written sink.old)) (hand_of self.old) []
             (devices (S.left source.new) (S.reads source.new) (K.written sink.new)) (hand_of self.new) []) }
         ensures ended { OnOk result ((self.new.lines.held ≡ []) × IsAtEnd (S.left source.new)) }
@@ -186,13 +172,8 @@ impl Runner {
         ensures source_counted { S.faults source.old ≤ S.faults source.new }
         ensures sink_counted { K.faults sink.old ≤ K.faults sink.new }
     {
-        loop {
-            match self.turn(source, sink) {
-                Err(stop) => return Err(stop),
-                Ok(false) => return Ok(()),
-                Ok(true) => {}
-            }
-        }
+        while self.turn(source, sink)? {}
+        Ok(())
     }
 
     /// Hands the text in hand to the sink where memory is wanting. What the sink answers changes nothing.
@@ -209,10 +190,10 @@ impl Runner {
     /// Prints the ending.
     fn finish<K: Sink>(&mut self, sink: &mut K) -> Result<(), Stop>
         ensures ran { OnOk result ((start : Start) (left : Option (List ℕ)) (reads : Option Reads) → self.old.lines.held ≡ [] → IsAtEnd left
-            → Progress start (devices left reads (K.written sink.old)) (hand_of self.old) [] → Ran start.base start.old (devices left reads (K.written sink.new)) self.old.responder.malformed) }
+            → GoesOn start (devices left reads (K.written sink.old)) self.old → Ran start.base start.old (devices left reads (K.written sink.new)) self.old.responder.malformed) }
         ensures same { self.new.responder.malformed ≡ self.old.responder.malformed }
         ensures stops { IfErr result (λ stop. (start : Start) (left : Option (List ℕ)) (reads : Option Reads) → self.old.lines.held ≡ [] → IsAtEnd left
-            → Progress start (devices left reads (K.written sink.old)) (hand_of self.old) [] → Stops stop start.base start.old (devices left reads (K.written sink.new))) }
+            → GoesOn start (devices left reads (K.written sink.old)) self.old → Stops stop start.base start.old (devices left reads (K.written sink.new))) }
         ensures calm { OnOk result (K.faults sink.new ≡ K.faults sink.old) }
         ensures rose { IfErr result (λ stop. (s : ℕ) → RoseAt stop s s (K.faults sink.old) (K.faults sink.new)) }
         ensures counted { K.faults sink.old ≤ K.faults sink.new }
@@ -225,10 +206,10 @@ impl Runner {
 
     /// Answers all lines and prints the ending.
     pub fn work<S: Source, K: Sink>(&mut self, source: &mut S, sink: &mut K) -> Result<(), Stop>
-        requires under_way { (start : Start) × Progress start (devices (S.left source.old) (S.reads source.old) (K.written sink.old)) (hand_of self.old) [] }
-        ensures ran { OnOk result ((start : Start) → Progress start (devices (S.left source.old) (S.reads source.old) (K.written sink.old)) (hand_of self.old) []
+        requires under_way { IsGoing (devices (S.left source.old) (S.reads source.old) (K.written sink.old)) self.old }
+        ensures ran { OnOk result ((start : Start) → GoesOn start (devices (S.left source.old) (S.reads source.old) (K.written sink.old)) self.old
             → Ran start.base start.old (devices (S.left source.new) (S.reads source.new) (K.written sink.new)) self.new.responder.malformed × (took start.old.left (S.left source.new) ≤ most_of_script)) }
-        ensures stops { IfErr result (λ stop. (start : Start) → Progress start (devices (S.left source.old) (S.reads source.old) (K.written sink.old)) (hand_of self.old) []
+        ensures stops { IfErr result (λ stop. (start : Start) → GoesOn start (devices (S.left source.old) (S.reads source.old) (K.written sink.old)) self.old
             → Stops stop start.base start.old (devices (S.left source.new) (S.reads source.new) (K.written sink.new))) }
         ensures calm { OnOk result ((S.faults source.new ≡ S.faults source.old) × (K.faults sink.new ≡ K.faults sink.old)) }
         ensures rose { IfErr result (λ stop. RoseAt stop (S.faults source.old) (S.faults source.new) (K.faults sink.old) (K.faults sink.new)) }

@@ -5,8 +5,8 @@ ghost use Rattle.ltx_top.specs.Progress.{IsUnderWay, Served};
 ghost use Rattle.ltx_top.specs.Runs.{is_bad};
 ghost use Rattle.ltx_top.specs.Spellings.{IsSpelt};
 
-use crate::answer::answer;
 use crate::entries::put_entry;
+use crate::reply::reply_to;
 use ltx_core::Core;
 use ltx_model::commands::Line;
 use ltx_model::memory::NoMemory;
@@ -25,7 +25,7 @@ pub(crate) fn serve(
     ensures served { IfOk result (λ bad. Served core.old core.new line.now text.old.items text.new.items bad) }
     ensures kept { OnErr result (text.new.items ≡ text.old.items) }
 {
-    let reply = answer(core, line)?;
+    let reply = reply_to(core, line)?;
     put_entry(line, bytes, &reply, text)?;
     Ok(is_bad(&reply))
 }

@@ -4,3 +4,4 @@ pub mod Walks
 pub mod Points
 pub mod Ways
 pub mod Outcomes
+pub mod HeldTables

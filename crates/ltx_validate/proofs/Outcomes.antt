@@ -1,5 +1,5 @@
 -- What notes tell of the steps that they are of: the first note with a difference tells the first change.
-use Rattle.std.proofs.Common.{◌≡◌, ◌⊎◌, inl, inr, ℕ, zero, suc, ◌+◌, ◌<◌, ◌≤◌, Bool, true, false, not, ◌&&◌, ◌==◌, List, [], ◌∷◌, ◌++◌, map, take, Option, Some, None, refl, sym, ap, ◌∙◌, subst, arith, slice_get}
+use Rattle.std.proofs.Common.{◌≡◌, ◌⊎◌, inl, inr, ℕ, zero, suc, ◌+◌, ◌-◌, ◌<◌, ◌≤◌, Bool, true, false, not, ◌&&◌, ◌==◌, List, [], ◌∷◌, ◌++◌, map, length, drop, length-drop, drop-drop, Option, Some, None, refl, sym, ap, ◌∙◌, subst, arith, slice_get}
 use Rattle.std.specs.List.{list_any, AllByRecursion, Contains}
 use Rattle.std.specs.List.Sorted.{IsStrictlySortedBy}
 use Rattle.std.specs.declared.cmp.Ordering.{Ordering}
@@ -21,6 +21,7 @@ use Rattle.ltx_model.specs.States.{Step}
 use Rattle.ltx_model.specs.Shorts.{Change, Changes, IsNotAfter, IsFirstChange}
 use Rattle.ltx_model.specs.Notes.{look_of, is_one_of, IsLook, IsRange, IsPoint, IsReach, IsNote, AreNotesOf, AreNotes, found_in, asks, found_at}
 use Rattle.ltx_validate.specs.declared.difference.Difference.{Difference}
+use Rattle.ltx_validate.specs.Verdicts.{AreMarkedAt}
 use Rattle.ltx_validate.specs.Differences.{at, AreRisingLooks, IsOrdered, IsLeastDifference, Tells}
 use Rattle.ltx_model.proofs.KeyOrder.{key_turned, key_itself, same_keys}
 use Rattle.ltx_model.proofs.Orderings.{is_equal}
@@ -155,10 +156,47 @@ module _ {A : Type 0} where
   contains_none : (y : A) → Contains [] y → ⊥
   contains_none y (k, below, is) = omega (arith, below)
 
-module _ (now : List StoredRow) where
-  -- what is checked of a note: none of its keys has another writer now
-  abbrev pub IsPassed : Noted → Type 0
-  IsPassed note = IsOrdered note.reach → Tells now note.table note.reach None
+-- a mark that is left is one of the marks
+pub next_place : (k : ℕ) (marks : List ℕ) (mark : ℕ) (left : List ℕ) → drop k marks ≡ mark ∷ left → k < length marks
+next_place k marks mark left next = let count : length marks - k ≡ suc (length left) = sym (length-drop k marks) ∙ ap length next in omega (arith, count)
+
+pub next_left : (k : ℕ) (marks : List ℕ) (mark : ℕ) (left : List ℕ) → drop k marks ≡ mark ∷ left → left ≡ drop (k + 1) marks
+next_left k marks mark left next = ap (drop 1) (sym next) ∙ drop-drop 1 k marks
+
+-- the last of the marks
+pub no_more : (k n : ℕ) (marks : List ℕ) → drop k marks ≡ [] → length marks ≡ n → k ≤ n → k ≡ n
+no_more k n marks none count le = let left : length marks - k ≡ 0 = sym (length-drop k marks) ∙ ap length none in omega (arith, left, count, le)
+
+module _ (rows_at : ℕ → List StoredRow) (now : List StoredRow) where
+  -- what is checked of a note and its mark: none of its keys has another writer now than at the mark
+  abbrev pub IsPassed : Noted → ℕ → Type 0
+  IsPassed note mark = IsOrdered note.reach → Tells (rows_at mark) note.table note.reach None → Tells now note.table note.reach None
+
+  -- so many notes have passed
+  abbrev pub ArePassed : ℕ → List Noted → List ℕ → Type 0
+  ArePassed zero notes marks = Unit {0}
+  ArePassed (suc k) (note ∷ notes) (mark ∷ marks) = IsPassed note mark × ArePassed k notes marks
+  ArePassed (suc k) notes marks = ⊥
+
+  -- one more
+  passed_next : (k : ℕ) (notes : List Noted) (marks : List ℕ) (mark : ℕ) (left : List ℕ) → k < length notes → drop k marks ≡ mark ∷ left → ArePassed k notes marks → ((note : Noted) → slice_get notes k ≡ Some note → IsPassed note mark) → ArePassed (suc k) notes marks
+  passed_next k [] marks mark left within next passed this = absurd (omega (arith, within))
+  passed_next zero (n ∷ ns) [] mark left within next passed this = cc
+  passed_next zero (n ∷ ns) (m ∷ ms) mark left within next passed this = let level : mark ≡ m = cc in (subst (λ q. IsPassed n q) level (this n refl), tt)
+  passed_next (suc k) (n ∷ ns) [] mark left within next passed this = cc
+  passed_next (suc k) (n ∷ ns) (m ∷ ms) mark left within next passed this = (passed.0, passed_next k ns ms mark left (omega (arith, within)) next passed.1 this)
+
+  pub passed_more : (k : ℕ) (notes : List Noted) (marks : List ℕ) (mark : ℕ) (left : List ℕ) → k < length notes → drop k marks ≡ mark ∷ left → ArePassed k notes marks → ((note : Noted) → slice_get notes k ≡ Some note → IsPassed note mark)
+      → ArePassed (k + 1) notes marks
+  passed_more k notes marks mark left within next passed this = let one : suc k ≡ k + 1 = omega arith in subst (λ j. ArePassed j notes marks) one (passed_next k notes marks mark left within next passed this)
+
+  -- the note at a place passes
+  pub passed_by : (notes : List Noted) (k : ℕ) (this : Noted) (mark : ℕ) → slice_get notes k ≡ Some this → IsPassed this mark → (note : Noted) → slice_get notes k ≡ Some note → IsPassed note mark
+  passed_by notes k this mark here passed note is = let same : this ≡ note = cc in subst (λ n. IsPassed n mark) same passed
+
+  -- at the newest mark a note passes
+  pub passed_at : (mark : ℕ) → rows_at mark ≡ now → (note : Noted) → IsPassed note mark
+  passed_at mark rows note ordered before = subst (λ r. Tells r note.table note.reach None) rows before
 
   -- the note of a numbered step
   abbrev IsNoteOf : Numbered Step → Noted → Type 0
@@ -171,10 +209,18 @@ module _ (now : List StoredRow) where
   asked : (o : Numbered Step) (note : Noted) → IsNoteOf o note → (cell : Cell) → looks_up cell (ops_of o.earlier) o.item.op ≡ true → IsAsked o.item.latest note.table note.reach cell
   asked o note n cell e = subst (λ t. IsAsked o.item.latest t note.reach cell) (sym n.table) (asked_reach o.item.latest (ops_of o.earlier) o.item.op note.reach cell n.reach e)
 
-  unchanged_by : (o : Numbered Step) (note : Noted) → IsNoteOf o note → IsPassed note → IsUnchanged o
-  unchanged_by o note n passed cell e =
+  -- at the step's moment the writers are those of the looks
+  told : (o : Numbered Step) (note : Noted) → IsNoteOf o note → Tells o.item.latest note.table note.reach None
+  told o note n key asks_it =
+      let up : looks_up (at note.table key) (ops_of o.earlier) o.item.op ≡ true =
+      subst (λ t. looks_up (at t key) (ops_of o.earlier) o.item.op ≡ true) (sym n.table) (up_reach o.item.latest (ops_of o.earlier) o.item.op note.reach key n.reach asks_it) in
+      (asked o note n (at note.table key) up).found
+
+  unchanged_by : (o : Numbered Step) (note : Noted) (mark : ℕ) → IsNoteOf o note → rows_at mark ≡ o.item.latest → IsPassed note mark → IsUnchanged o
+  unchanged_by o note mark n rows passed cell e =
       let a = asked o note n cell e in
-      let same : found_at note.reach cell.key ≡ writer_at now (at note.table cell.key) = passed (ordered_reach o.item.latest (ops_of o.earlier) o.item.op note.reach n.reach) cell.key a.asked in
+      let before : Tells (rows_at mark) note.table note.reach None = subst (λ r. Tells r note.table note.reach None) (sym rows) (told o note n) in
+      let same : found_at note.reach cell.key ≡ writer_at now (at note.table cell.key) = passed (ordered_reach o.item.latest (ops_of o.earlier) o.item.op note.reach n.reach) before cell.key a.asked in
       let here : at note.table cell.key ≡ cell = λ i. record { table = a.of_table i; key = cell.key } in
       sym a.found ∙ same ∙ ap (writer_at now) here
 
@@ -186,34 +232,39 @@ module _ (now : List StoredRow) where
     by_place (inl e) later = let same : n ≡ o.number = ap (λ z. z.number) e in omega (arith, same)
     by_place (inr d) later = let le = later d in omega (arith, le)
 
-  all_unchanged : (n : ℕ) (earlier steps : List Step) (notes : List Noted) → AreNotesOf (numbered_from n earlier steps) notes → AllByRecursion IsPassed notes → (o : Numbered Step) → Contains (numbered_from n earlier steps) o → IsUnchanged o
-  all_unchanged n earlier [] notes are passed o c = absurd (contains_none o c)
-  all_unchanged n earlier (s ∷ steps) [] are passed o c = absurd are
-  all_unchanged n earlier (s ∷ steps) (note ∷ notes) are passed o c = by_place (contains_cases (record { number = n; earlier = earlier; item = s }) (numbered_from (n + 1) (earlier ++ s ∷ []) steps) o c) (all_unchanged (n + 1) (earlier ++ s ∷ []) steps notes are.1 passed.1 o) where
-    by_place : (◌≡◌ {A = Numbered Step} (record { number = n; earlier = earlier; item = s }) o) ⊎ Contains (numbered_from (n + 1) (earlier ++ s ∷ []) steps) o → (Contains (numbered_from (n + 1) (earlier ++ s ∷ []) steps) o → IsUnchanged o) → IsUnchanged o
-    by_place (inl e) later = subst IsUnchanged e (unchanged_by (record { number = n; earlier = earlier; item = s }) note are.0 passed.0)
-    by_place (inr d) later = later d
+  all_unchanged : (n : ℕ) (earlier steps : List Step) (notes : List Noted) (marks : List ℕ) → AreNotesOf (numbered_from n earlier steps) notes → AreMarkedAt rows_at steps marks → ArePassed (length notes) notes marks
+      → (o : Numbered Step) → Contains (numbered_from n earlier steps) o → IsUnchanged o
+  all_unchanged n earlier [] notes marks are rows passed o c = absurd (contains_none o c)
+  all_unchanged n earlier (s ∷ steps) [] marks are rows passed o c = absurd are
+  all_unchanged n earlier (s ∷ steps) (note ∷ notes) [] are rows passed o c = absurd rows
+  all_unchanged n earlier (s ∷ steps) (note ∷ notes) (mark ∷ marks) are rows passed o c =
+      by_place (contains_cases (record { number = n; earlier = earlier; item = s }) (numbered_from (n + 1) (earlier ++ s ∷ []) steps) o c) (all_unchanged (n + 1) (earlier ++ s ∷ []) steps notes marks are.1 rows.1 passed.1 o) where
+        by_place : (◌≡◌ {A = Numbered Step} (record { number = n; earlier = earlier; item = s }) o) ⊎ Contains (numbered_from (n + 1) (earlier ++ s ∷ []) steps) o → (Contains (numbered_from (n + 1) (earlier ++ s ∷ []) steps) o → IsUnchanged o) → IsUnchanged o
+        by_place (inl e) later = subst IsUnchanged e (unchanged_by (record { number = n; earlier = earlier; item = s }) note mark are.0 rows.0 passed.0)
+        by_place (inr d) later = later d
 
   -- all notes passed: nothing has changed
-  pub passed_all : (notes : List Noted) → AllByRecursion IsPassed notes → (steps : List Step) → AreNotes steps notes → (c : Change) → Changes now steps c → ⊥
-  passed_all notes passed steps are c h = h.differ (sym h.found ∙ all_unchanged 1 [] steps notes are passed h.at h.here c.cell h.looks ∙ h.current)
+  pub passed_all : (notes : List Noted) (marks : List ℕ) → ArePassed (length notes) notes marks → (steps : List Step) → AreNotes steps notes → AreMarkedAt rows_at steps marks → (c : Change) → Changes now steps c → ⊥
+  passed_all notes marks passed steps are rows c h = h.differ (sym h.found ∙ all_unchanged 1 [] steps notes marks are rows passed h.at h.here c.cell h.looks ∙ h.current)
 
   -- the step of a note, where all notes before it passed
-  record IsStepOf (os : List (Numbered Step)) (number : ℕ) (note : Noted) : Type 0 where
+  record IsStepOf (os : List (Numbered Step)) (number : ℕ) (note : Noted) (mark : ℕ) : Type 0 where
     pub at : Numbered Step
     pub here : Contains os at
     pub numbered_so : at.number ≡ number
     pub noted : IsNoteOf at note
+    pub marked : rows_at mark ≡ at.item.latest
     pub others : (o : Numbered Step) → Contains os o → IsUnchanged o ⊎ (at ≡ o) ⊎ (number < o.number)
 
   -- the same with one step more before it
-  step_later : (n : ℕ) (earlier : List Step) (s : Step) (steps : List Step) (m : Noted) (k : ℕ) (note : Noted) → IsNoteOf (record { number = n; earlier = earlier; item = s }) m → IsPassed m
-      → IsStepOf (numbered_from (n + 1) (earlier ++ s ∷ []) steps) (n + 1 + k) note → IsStepOf (numbered_from n earlier (s ∷ steps)) (n + suc k) note
-  step_later n earlier s steps m k note noted passed later = record {
+  step_later : (n : ℕ) (earlier : List Step) (s : Step) (steps : List Step) (k : ℕ) (note : Noted) (mark : ℕ) → IsUnchanged (record { number = n; earlier = earlier; item = s })
+      → IsStepOf (numbered_from (n + 1) (earlier ++ s ∷ []) steps) (n + 1 + k) note mark → IsStepOf (numbered_from n earlier (s ∷ steps)) (n + suc k) note mark
+  step_later n earlier s steps k note mark first_same later = record {
     at = later.at;
     here = contains_later first rest later.at later.here;
     numbered_so = let e = later.numbered_so in omega (arith, e);
     noted = later.noted;
+    marked = later.marked;
     others = λ o c. by_place o (contains_cases first rest o c);
   } where
     first : Numbered Step
@@ -228,19 +279,21 @@ module _ (now : List StoredRow) where
     in_rest o (inr (inr less)) = inr (inr (omega (arith, less)))
 
     by_place : (o : Numbered Step) → (first ≡ o) ⊎ Contains rest o → IsUnchanged o ⊎ (later.at ≡ o) ⊎ (n + suc k < o.number)
-    by_place o (inl e) = inl (subst IsUnchanged e (unchanged_by first m noted passed))
+    by_place o (inl e) = inl (subst IsUnchanged e first_same)
     by_place o (inr d) = in_rest o (later.others o d)
 
-  step_of : (n : ℕ) (earlier steps : List Step) (notes : List Noted) (k : ℕ) (note : Noted) → AreNotesOf (numbered_from n earlier steps) notes → slice_get notes k ≡ Some note → AllByRecursion IsPassed (take k notes)
-      → IsStepOf (numbered_from n earlier steps) (n + k) note
-  step_of n earlier [] [] k note are is passed = cc
-  step_of n earlier [] (m ∷ notes) k note are is passed = absurd are
-  step_of n earlier (s ∷ steps) [] k note are is passed = absurd are
-  step_of n earlier (s ∷ steps) (m ∷ notes) zero note are is passed = record {
+  step_of : (n : ℕ) (earlier steps : List Step) (notes : List Noted) (marks : List ℕ) (k : ℕ) (note : Noted) (mark : ℕ) (left : List ℕ) → AreNotesOf (numbered_from n earlier steps) notes → AreMarkedAt rows_at steps marks
+      → slice_get notes k ≡ Some note → drop k marks ≡ mark ∷ left → ArePassed k notes marks → IsStepOf (numbered_from n earlier steps) (n + k) note mark
+  step_of n earlier [] [] marks k note mark left are rows is next passed = cc
+  step_of n earlier [] (m ∷ notes) marks k note mark left are rows is next passed = absurd are
+  step_of n earlier (s ∷ steps) [] marks k note mark left are rows is next passed = absurd are
+  step_of n earlier (s ∷ steps) (m ∷ notes) [] k note mark left are rows is next passed = absurd rows
+  step_of n earlier (s ∷ steps) (m ∷ notes) (r ∷ marks) zero note mark left are rows is next passed = record {
     at = first;
     here = contains_here first rest;
     numbered_so = omega arith;
     noted = let same : m ≡ note = cc in subst (IsNoteOf first) same are.0;
+    marked = let level : mark ≡ r = cc in ap rows_at level ∙ rows.0;
     others = λ o c. by_place o (contains_cases first rest o c);
   } where
     first : Numbered Step
@@ -252,19 +305,19 @@ module _ (now : List StoredRow) where
     by_place : (o : Numbered Step) → (first ≡ o) ⊎ Contains rest o → IsUnchanged o ⊎ (first ≡ o) ⊎ (n + 0 < o.number)
     by_place o (inl e) = inr (inl e)
     by_place o (inr d) = inr (inr (let le = number_from (n + 1) (earlier ++ s ∷ []) steps o d in omega (arith, le)))
-  step_of n earlier (s ∷ steps) (m ∷ notes) (suc k) note are is passed =
-      step_later n earlier s steps m k note are.0 passed.0 (step_of (n + 1) (earlier ++ s ∷ []) steps notes k note are.1 is passed.1)
+  step_of n earlier (s ∷ steps) (m ∷ notes) (r ∷ marks) (suc k) note mark left are rows is next passed =
+      step_later n earlier s steps k note mark (unchanged_by (record { number = n; earlier = earlier; item = s }) m r are.0 rows.0 passed.0) (step_of (n + 1) (earlier ++ s ∷ []) steps notes marks k note mark left are.1 rows.1 is next passed.1)
 
   -- the change that a difference at a note tells
   abbrev change_at : ℕ → ℕ → Difference → Change
   change_at number table d = record { op = number; cell = at table d.key; found = d.found; current = d.current }
 
   -- The notes before this one passed, and it has a difference: that is the first change.
-  pub first_is : (notes : List Noted) (k : ℕ) (note : Noted) (d : Difference) → slice_get notes k ≡ Some note → AllByRecursion IsPassed (take k notes) → (IsOrdered note.reach → Tells now note.table note.reach (Some d)) → (steps : List Step)
-      → AreNotes steps notes → IsFirstChange now steps (change_at (k + 1) note.table d)
-  first_is notes k note d is passed tells steps are = record { changes = changes; first = λ other h. by_others other h (s.others h.at h.here) } where
-    s : IsStepOf (numbered steps) (1 + k) note
-    s = step_of 1 [] steps notes k note are is passed
+  pub first_is : (notes : List Noted) (marks : List ℕ) (k : ℕ) (note : Noted) (mark : ℕ) (left : List ℕ) (d : Difference) → slice_get notes k ≡ Some note → drop k marks ≡ mark ∷ left → ArePassed k notes marks
+      → (IsOrdered note.reach → Tells (rows_at mark) note.table note.reach None → Tells now note.table note.reach (Some d)) → (steps : List Step) → AreNotes steps notes → AreMarkedAt rows_at steps marks → IsFirstChange now steps (change_at (k + 1) note.table d)
+  first_is notes marks k note mark left d is next passed tells steps are marked = record { changes = changes; first = λ other h. by_others other h (s.others h.at h.here) } where
+    s : IsStepOf (numbered steps) (1 + k) note mark
+    s = step_of 1 [] steps notes marks k note mark left are marked is next passed
 
     rows : List StoredRow
     rows = s.at.item.latest
@@ -273,7 +326,7 @@ module _ (now : List StoredRow) where
     reached = s.noted.reach
 
     least : IsLeastDifference now note.table note.reach d
-    least = tells (ordered_reach rows (ops_of s.at.earlier) s.at.item.op note.reach reached)
+    least = tells (ordered_reach rows (ops_of s.at.earlier) s.at.item.op note.reach reached) (subst (λ r. Tells r note.table note.reach None) (sym s.marked) (told s.at note s.noted))
 
     cell : Cell
     cell = at note.table d.key

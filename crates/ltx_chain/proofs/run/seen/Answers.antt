@@ -1,4 +1,4 @@
-use Rattle.std.proofs.Common.{ap, filter}
+use Rattle.std.proofs.Common.{filter}
 use Rattle.ltx_chain.specs.Versions.{is_at_most}
 use Rattle.ltx_chain.proofs.Seen.{latest_at}
 use Rattle.ltx_chain.proofs.run.seen.Goals as goal

@@ -1,4 +1,4 @@
-use Rattle.std.proofs.Common.{◌≡◌, ℕ, ◌<◌, ◌≤◌, true, false, arith}
+use Rattle.std.proofs.Common.{◌≡◌, ◌<◌, ◌≤◌, false, arith}
 use Rattle.std.proofs.lemmas.Bool.{eqb-true, false_from_ne_true}
 use Rattle.ltx_model.specs.declared.rows.StoredRow.{StoredRow}
 use Rattle.ltx_model.specs.Agenda.{Member, number_of, has_number, is_member}

@@ -1,4 +1,4 @@
-use Rattle.std.proofs.Common.{◌≡◌, ◌<◌, ◌≤◌, ℕ, ◌⊎◌, true, false, slice_index_or, None, Bool}
+use Rattle.std.proofs.Common.{◌≡◌, ◌<◌, ℕ, true, false, slice_index_or, None}
 use Rattle.ltx_model.specs.Tables.{has_table}
 use Rattle.ltx_preserve.specs.Kept.{IsKept}
 use Rattle.ltx_preserve.proofs.preserve.refresh.Given as goal

@@ -1,6 +1,6 @@
-use Rattle.std.proofs.Common.{◌≡◌, ◌∷◌, [], ◌∙◌, sym, ap, subst}
+use Rattle.std.proofs.Common.{◌∙◌, sym, subst}
 use Rattle.ltx_store.specs.Walks.{HasPassed}
-use Rattle.ltx_store.proofs.NextPuts.{passed_start, passed_more, found_put, found_none}
+use Rattle.ltx_store.proofs.NextPuts.{passed_start, passed_more, found_put}
 use Rattle.ltx_store.proofs.table.next_put.Goals as goal
 
 pub loop-key-init : goal.loop-key-init

@@ -1,7 +1,7 @@
-use Rattle.std.proofs.Common.{◌≡◌, ◌∷◌, [], ◌∙◌, sym, subst, ℕ, List}
+use Rattle.std.proofs.Common.{◌∙◌, sym, subst, ℕ, List}
 use Rattle.ltx_chain.specs.Versions.{Versions}
 use Rattle.ltx_store.specs.Walks.{IsScanned}
-use Rattle.ltx_store.proofs.ScanSteps.{scan_start, scan_more, scan_past, scan_all}
+use Rattle.ltx_store.proofs.ScanSteps.{scan_start, scan_more, scan_past}
 use Rattle.ltx_store.proofs.table.scan.Goals as goal
 
 pub loop-key-init : goal.loop-key-init

@@ -1,5 +1,5 @@
-use Rattle.std.proofs.Common.{◌≡◌, ◌∙◌, ap, sym}
-use Rattle.ltx_chain.specs.Versions.{Versions, latest}
+use Rattle.std.proofs.Common.{ap}
+use Rattle.ltx_chain.specs.Versions.{Versions}
 use Rattle.ltx_chain.proofs.Runs.{newest_is}
 use Rattle.ltx_chain.proofs.run.Run.latest.Goals as goal
 

@@ -1,4 +1,4 @@
-use Rattle.std.proofs.Common.{◌≡◌, ap, ◌∙◌, drop, sym}
+use Rattle.std.proofs.Common.{◌≡◌, ap, ◌∙◌, drop}
 use Rattle.ltx_chain.specs.Versions.{Versions, visible, kept_from}
 use Rattle.ltx_chain.specs.Runs.{all_of}
 use Rattle.ltx_chain.proofs.Seen.{visible-kept_from}

@@ -1,5 +1,5 @@
-use Rattle.std.proofs.Common.{◌≡◌, ◌∙◌, ap, sym}
-use Rattle.ltx_chain.specs.Versions.{Versions, visible}
+use Rattle.std.proofs.Common.{◌∙◌, ap, sym}
+use Rattle.ltx_chain.specs.Versions.{Versions}
 use Rattle.ltx_chain.proofs.Runs.{seen_newest, seen_older, older_rising}
 use Rattle.ltx_chain.proofs.run.Run.visible.Goals as goal
 

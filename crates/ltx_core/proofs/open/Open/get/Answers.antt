@@ -19,6 +19,7 @@ returns-in-Some-clause-done c =
     answer
     c.requires.marked
     (c.note_get.ensures.number ∙ ap (λ (s : OpenView). s.number) c.self.view_is)
+    (c.note_get.ensures.stage ∙ ap (λ (s : OpenView). s.stage) c.self.view_is)
     (notes ∙ ap (λ (s : OpenView). with_note s.notes note) c.self.view_is)
     (ap (λ (s : OpenView). s.own.writes) c.self.view_is)
 
@@ -32,5 +33,6 @@ returns-clause-done c =
     c.get_at-seen.ensures.version c.in_ok-reply-2.ensures c.in_ok-look.ensures
     c.requires.marked
     (c.note_get-2.ensures.number ∙ ap (λ (s : OpenView). s.number) c.self.view_is)
+    (c.note_get-2.ensures.stage ∙ ap (λ (s : OpenView). s.stage) c.self.view_is)
     (notes ∙ ap (λ (s : OpenView). with_note s.notes note) c.self.view_is)
     (ap (λ (s : OpenView). s.own.writes) c.self.view_is)

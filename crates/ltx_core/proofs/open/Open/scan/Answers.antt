@@ -24,5 +24,6 @@ returns-clause-done c =
     (ap Rows c.from_vec.ensures.value)
     c.requires.marked
     (c.note_scan-2.ensures.number ∙ ap (λ (s : OpenView). s.number) c.self.view_is)
+    (c.note_scan-2.ensures.stage ∙ ap (λ (s : OpenView). s.stage) c.self.view_is)
     (notes ∙ ap (λ (s : OpenView). with_note s.notes note) c.self.view_is)
     (ap (λ (s : OpenView). s.own.writes) c.self.view_is)

@@ -1,6 +1,6 @@
 use Rattle.std.proofs.Common.{◌≡◌, ◌<◌, length, arith, rules}
 use Rattle.std.proofs.lemmas.Grind.{common_steps}
-use Rattle.ltx_core.proofs.FromFields.{if_ok, on_err_so}
+use Rattle.ltx_core.proofs.Results.{if_ok, on_err_so}
 use Rattle.ltx_core.proofs.SlotChanges.{in_none, in_full, in_done, in_kept}
 use Rattle.ltx_core.proofs.opens.Opens.operate.Goals as goal
 

@@ -1,5 +1,10 @@
-use Rattle.ltx_core.proofs.FromFields.{if_three_ok, operated_from}
+use Rattle.std.proofs.Common.{Some, ap, sym, ◌∙◌}
+use Rattle.ltx_core.proofs.Operated.{none_from, pending_from}
 use Rattle.ltx_core.proofs.state.Core.operate.Goals as goal
 
-pub returns-clause-ok : goal.returns-clause-ok
-returns-clause-ok c = if_three_ok _ _ _ _ (λ reply none full done. operated_from _ _ c.self.view_is c.args.session c.self.invariant.marks c.args.op.now reply c.operate.new.self none full done) c.operate.result c.operate.ensures.none c.operate.ensures.full c.operate.ensures.done
+pub returns-in-None-clause-ok : goal.returns-in-None-clause-ok
+returns-in-None-clause-ok c = none_from _ _ c.self.view_is c.args.session c.args.op.now (sym c.stage.ensures ∙ c.in-None.is)
+
+pub returns-in-Some-Pending-clause-ok : goal.returns-in-Some-Pending-clause-ok
+returns-in-Some-Pending-clause-ok c =
+    pending_from _ _ c.self.view_is c.args.session c.args.op.now c.in-Some-Pending.declared (sym c.stage.ensures ∙ c.in-Some-Pending.is ∙ ap Some c.in-Some-Pending.field-0-is)

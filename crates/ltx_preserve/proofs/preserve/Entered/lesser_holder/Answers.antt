@@ -1,4 +1,4 @@
-use Rattle.std.proofs.Common.{◌≡◌, sym, ◌∙◌, ap, subst, ◌++◌, ◌∷◌, [], Some}
+use Rattle.std.proofs.Common.{sym, ◌∙◌, ap, subst, ◌++◌, ◌∷◌, [], Some}
 use Rattle.ltx_preserve.specs.Kept.{IsKept, lesser_of}
 use Rattle.ltx_preserve.proofs.Holding.{one_more_idle, one_more_holder}
 use Rattle.ltx_preserve.proofs.preserve.Entered.lesser_holder.Goals as goal

@@ -1,4 +1,4 @@
-use Rattle.std.proofs.Common.{◌≡◌, subst, sym, ap, ◌∙◌, refl, set}
+use Rattle.std.proofs.Common.{subst, sym, ap, ◌∙◌, set}
 use Rattle.std.specs.Prelude.{slice_index_or, None}
 use Rattle.ltx_model.specs.Firsts.{IsFirst}
 use Rattle.ltx_model.specs.Lists.{change_first}

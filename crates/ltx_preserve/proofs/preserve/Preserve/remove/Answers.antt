@@ -1,4 +1,4 @@
-use Rattle.std.proofs.Common.{◌≡◌, subst, sym, ap, ◌∙◌, refl}
+use Rattle.std.proofs.Common.{subst, sym, ap, ◌∙◌}
 use Rattle.ltx_model.specs.Firsts.{IsFirst}
 use Rattle.ltx_model.specs.Lists.{without_first}
 use Rattle.ltx_model.proofs.FirstPlace.{without_first_at}

@@ -9,7 +9,7 @@ use Rattle.ltx_store.proofs.store.Store.get_at.Goals as goal
 pub returns : goal.returns
 returns c =
     let p : IsPlace c.args.self.now c.self.inside.tables.items c.from.result c.args.table c.index.result.now =
-    record { kept_is = c.self.view_is; tables = c.self.invariant; at = c.from.ensures ∙ c.number.ensures.value; within = omega arith; is = c.index.ensures } in
+    record { kept_is = c.self.view_is; tables = c.self.invariant.tables_are; at = c.from.ensures ∙ c.number.ensures.value; within = omega arith; is = c.index.ensures } in
     record {
       row = row_in_place p c.args.key.now c.args.mark (option_copied c.visible.result) (c.visible.ensures ∙ ap (λ o. visible c.args.mark (items_of o)) c.in_ok-get.ensures.value);
       version = c.visible.ensures ∙ ap (λ o. visible c.args.mark (items_of o)) (c.in_ok-get.ensures.value ∙ sym (chain_in_place p c.args.key.now));
@@ -19,7 +19,7 @@ returns c =
 pub returns-in_err-get : goal.returns-in_err-get
 returns-in_err-get c =
     let p : IsPlace c.args.self.now c.self.inside.tables.items c.from.result c.args.table c.index.result.now =
-    record { kept_is = c.self.view_is; tables = c.self.invariant; at = c.from.ensures ∙ c.number.ensures.value; within = omega arith; is = c.index.ensures } in
+    record { kept_is = c.self.view_is; tables = c.self.invariant.tables_are; at = c.from.ensures ∙ c.number.ensures.value; within = omega arith; is = c.index.ensures } in
     record {
       row = row_in_place p c.args.key.now c.args.mark (option_copied c.from_residual.result) (ap option_copied c.from_residual.ensures ∙ ap (λ o. visible c.args.mark (items_of o)) c.in_err-get.ensures.value);
       version = ap option_copied c.from_residual.ensures ∙ ap (λ o. visible c.args.mark (items_of o)) (c.in_err-get.ensures.value ∙ sym (chain_in_place p c.args.key.now));

@@ -1,0 +1,11 @@
+pub mod Singles
+pub mod Joined
+pub mod Rows
+pub mod RowEdits
+pub mod Placing
+pub mod Listings
+pub mod Settling
+pub mod InLanes
+pub mod Restarts
+pub mod Walks
+pub mod Spots

@@ -1,0 +1,5 @@
+pub mod Runs
+pub mod Seats
+pub mod Placed
+pub mod Lanes
+pub mod Marks

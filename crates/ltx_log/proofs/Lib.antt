@@ -1,0 +1,10 @@
+pub mod Images
+pub mod Since
+pub mod Heads
+pub mod Standing
+pub mod Leading
+pub mod Moments
+pub mod Makes
+pub mod Appends
+pub mod Exits
+pub mod Starts

@@ -1,0 +1,5 @@
+pub mod Causes
+pub mod Images
+pub mod Readings
+pub mod Making
+pub mod Running

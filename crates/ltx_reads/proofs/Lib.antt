@@ -1,0 +1,9 @@
+pub mod Commits
+pub mod Found
+pub mod Indexed
+pub mod Lookers
+pub mod Merged
+pub mod Nexts
+pub mod PlacedStamps
+pub mod Ties
+pub mod Walks
