@@ -141,40 +141,90 @@ mod tests {
     /// A script, and the numbers that its run prints as the order, each after a space.
     type Known = (Lines, &'static str);
 
-    const KNOWN: &[Known] = &[
+    /// Whether each of the scripts is printed with its replies and its order.
+    fn are_printed(alloc: Global, known: &[Known]) -> Result<bool, Fail> {
+        for (rows, order) in known {
+            if !is_printed(alloc, rows, order)? {
+                return Ok(false);
+            }
+        }
+        Ok(true)
+    }
+
+    const SHORTS: &[Known] = &[
         (NOTHING, ""),
         (A_READ_SEES_A_COMMIT, " 1 2"),
         (TWO_SHORTS_WRITE_ONE_KEY, " 1 2"),
         (A_ROW_APPEARS_IN_A_SCANNED_RANGE, " 2"),
         (A_ROW_CAME_AND_WENT, " 2 3 1"),
+        (ONE_TRANSACTION_A_SESSION, ""),
+        (OWN_WRITES_AND_ESCAPES, " 1"),
+    ];
+
+    /// Whether the scripts of shorts are printed.
+    fn prints_shorts(alloc: Global) -> Result<bool, Fail> {
+        are_printed(alloc, SHORTS)
+    }
+
+    const BATCHES: &[Known] = &[
         (A_TOUCHED_TABLE_IS_HELD_AT_THE_COMMIT, ""),
         (A_BATCH_BEFORE_ITS_EPOCH, " 1"),
         (A_BATCH_OUTSIDE_WHAT_IT_DECLARED, " 1"),
         (A_BATCH_GIVES_UP, " 3 4 5"),
+    ];
+
+    /// Whether the scripts of batches that overtake nobody are printed.
+    fn prints_batches(alloc: Global) -> Result<bool, Fail> {
+        are_printed(alloc, BATCHES)
+    }
+
+    const OVERTAKING: &[Known] = &[
         (TWO_BATCHES_READ_WHAT_THE_OTHER_WRITES, " 1"),
         (A_BATCH_BEFORE_ITS_ELDER, " 2 1"),
         (A_BATCH_THAT_SAW_TOO_MUCH, " 1 2"),
         (THE_ELDER_GIVES_UP, " 2 3"),
+    ];
+
+    /// Whether the scripts of batches that overtake are printed.
+    fn prints_overtaking(alloc: Global) -> Result<bool, Fail> {
+        are_printed(alloc, OVERTAKING)
+    }
+
+    const FORWARDING: &[Known] = &[
         (A_FORWARDED_WRITE_UNDER_A_LATER_ONE, " 3 1 2 4"),
         (A_BATCH_BEFORE_ONE_THAT_IS_REFUSED, " 1 3"),
-        (ONE_TRANSACTION_A_SESSION, ""),
-        (OWN_WRITES_AND_ESCAPES, " 1"),
+    ];
+
+    /// Whether the scripts of batches that are put before others are printed.
+    fn prints_forwarding(alloc: Global) -> Result<bool, Fail> {
+        are_printed(alloc, FORWARDING)
+    }
+
+    const EXAMPLES_OF_SHORTS: &[Known] = &[
         (CONFLICT, " 1 2 4"),
         (PHANTOM, " 1 3 4"),
         (ORDERS, " 1 2 3 4"),
+    ];
+
+    /// Whether the examples with shorts alone, and the roll-up, are printed.
+    fn prints_examples_of_shorts(alloc: Global) -> Result<bool, Fail> {
+        are_printed(alloc, EXAMPLES_OF_SHORTS)
+    }
+
+    const EXAMPLES_OF_BATCHES: &[Known] = &[
         (SUM, " 1 2 3 5 6"),
         (FORWARDED, " 1 3 2 5"),
         (REFUSED, " 1 2 4"),
     ];
 
-    #[test]
-    fn scripts_are_printed_with_their_replies(rt: HostRuntime) -> Result<(), Fail> {
-        let alloc = rt.alloc();
-        for (rows, order) in KNOWN {
-            assert!(rt; is_printed(alloc, rows, order)?);
-        }
-        // Bad lines between good ones, and a line that is too long, which is the second one, so that in one of the runs it
-        // is held whole.
+    /// Whether the examples with batches are printed.
+    fn prints_examples_of_batches(alloc: Global) -> Result<bool, Fail> {
+        are_printed(alloc, EXAMPLES_OF_BATCHES)
+    }
+
+    /// Whether bad lines between good ones have their causes, and a line that is too long, which is the second one, so that in
+    /// one of the runs it is held whole.
+    fn prints_bad_lines(alloc: Global) -> Result<bool, Fail> {
         let mut script = Vec::new(alloc);
         let mut text = Vec::new(alloc);
         put_line(&mut script, "1 get 0 x")?;
@@ -193,9 +243,22 @@ mod tests {
         put_line(&mut script, "1 get 0 x")?;
         put_entry(&mut text, "1 get 0 x", "notx")?;
         put_ending(&mut text, 0, "")?;
-        for most in MOST_OF_A_READ {
-            assert!(rt; gives(alloc, &script, most, 1, &text)?);
-        }
+        Ok(
+            gives(alloc, &script, MOST_OF_A_READ[0], 1, &text)?
+                && gives(alloc, &script, MOST_OF_A_READ[1], 1, &text)?,
+        )
+    }
+
+    #[test]
+    fn scripts_are_printed_with_their_replies(rt: HostRuntime) -> Result<(), Fail> {
+        let alloc = rt.alloc();
+        assert!(rt; prints_shorts(alloc)?);
+        assert!(rt; prints_batches(alloc)?);
+        assert!(rt; prints_overtaking(alloc)?);
+        assert!(rt; prints_forwarding(alloc)?);
+        assert!(rt; prints_examples_of_shorts(alloc)?);
+        assert!(rt; prints_examples_of_batches(alloc)?);
+        assert!(rt; prints_bad_lines(alloc)?);
         Ok(())
     }
 
