@@ -20,7 +20,10 @@ mod tests {
         ONE_TRANSACTION_A_SESSION, OWN_WRITES_AND_ESCAPES, THE_ELDER_GIVES_UP,
         TWO_BATCHES_READ_WHAT_THE_OTHER_WRITES, TWO_SHORTS_WRITE_ONE_KEY,
     };
-    use crate::limits::{ACCOUNTS, FULL_LINES, LIMITS, Part, SHUFFLED, TRANSFERS};
+    use crate::limits::{
+        ACCOUNTS, FULL_LINES, IN_ONE_SESSION, Limit, OPERATIONS, Part, SESSIONS, SHUFFLED,
+        TRANSFERS, WRITES,
+    };
     use ltx_core::Core;
     use ltx_model::base::Recovered;
     use ltx_model::commands::{Command, Verb};
@@ -400,19 +403,29 @@ mod tests {
         }
     }
 
-    /// Whether the last number is given, and no further one, to shorts and to batches.
-    fn has_a_last_number(alloc: Global) -> Result<bool, Fail> {
-        let short = asked(&mut core_after(alloc, 0, Tx::LAST - 1)?, Verb::Short)?;
-        let batch = asked(&mut core_after(alloc, 0, Tx::LAST - 1)?, a_batch())?;
-        let mut full = core_after(alloc, 0, Tx::LAST)?;
-        let no_short = asked(&mut full, Verb::Short)?;
-        let no_batch = asked(&mut full, a_batch())?;
-        Ok(
-            matches!(short, Reply::Begun { tx } if tx.number() == Tx::LAST)
-                && matches!(batch, Reply::BegunAt { tx, epoch } if tx.number() == Tx::LAST && epoch == 2)
-                && matches!(no_short, Reply::LimitTx)
-                && matches!(no_batch, Reply::LimitTx),
-        )
+    /// What a core after this last number answers to the first verb of a session.
+    fn begun_after(alloc: Global, last: u64, verb: Verb) -> Result<Reply, Fail> {
+        let mut core = core_after(alloc, 0, last)?;
+        asked(&mut core, verb)
+    }
+
+    /// Whether a short gets the last number.
+    fn gives_a_short_the_last_number(alloc: Global) -> Result<bool, Fail> {
+        let short = begun_after(alloc, Tx::LAST - 1, Verb::Short)?;
+        Ok(matches!(short, Reply::Begun { tx } if tx.number() == Tx::LAST))
+    }
+
+    /// Whether a batch gets the last number.
+    fn gives_a_batch_the_last_number(alloc: Global) -> Result<bool, Fail> {
+        let batch = begun_after(alloc, Tx::LAST - 1, a_batch())?;
+        Ok(matches!(batch, Reply::BegunAt { tx, epoch } if tx.number() == Tx::LAST && epoch == 2))
+    }
+
+    /// Whether no number is given after the last one.
+    fn gives_no_later_number(alloc: Global) -> Result<bool, Fail> {
+        let short = begun_after(alloc, Tx::LAST, Verb::Short)?;
+        let batch = begun_after(alloc, Tx::LAST, a_batch())?;
+        Ok(matches!(short, Reply::LimitTx) && matches!(batch, Reply::LimitTx))
     }
 
     /// Whether a batch becomes live in the last epoch, and commits there.
@@ -555,20 +568,53 @@ mod tests {
         )
     }
 
-    #[test]
-    fn runs_at_the_limits(rt: HostRuntime) -> Result<(), Fail> {
-        let alloc = rt.alloc();
-        assert!(rt; has_a_last_number(alloc)?);
-        assert!(rt; has_a_last_epoch(alloc)?);
-        for (parts, order) in LIMITS {
+    /// Whether each of the scripts is printed with its replies, and then the order of its numbers.
+    fn reaches(alloc: Global, limits: &[Limit]) -> Result<bool, Fail> {
+        for (parts, order) in limits {
             let mut script = Vec::new(alloc);
             let mut text = Vec::new(alloc);
             for part in *parts {
                 put_part(&mut script, &mut text, part)?;
             }
             put_ending(&mut text, *order, "")?;
-            assert!(rt; gives(alloc, &script, 100_000, 0, &text)?);
+            if !gives(alloc, &script, 100_000, 0, &text)? {
+                return Ok(false);
+            }
         }
+        Ok(true)
+    }
+
+    /// Whether one session meets its limits.
+    fn reaches_in_one_session(alloc: Global) -> Result<bool, Fail> {
+        reaches(alloc, IN_ONE_SESSION)
+    }
+
+    /// Whether a transaction has so many operations and no more.
+    fn reaches_operations(alloc: Global) -> Result<bool, Fail> {
+        reaches(alloc, OPERATIONS)
+    }
+
+    /// Whether all sessions have a transaction at once.
+    fn reaches_sessions(alloc: Global) -> Result<bool, Fail> {
+        reaches(alloc, SESSIONS)
+    }
+
+    /// Whether many writes are committed.
+    fn reaches_writes(alloc: Global) -> Result<bool, Fail> {
+        reaches(alloc, WRITES)
+    }
+
+    #[test]
+    fn runs_at_the_limits(rt: HostRuntime) -> Result<(), Fail> {
+        let alloc = rt.alloc();
+        assert!(rt; gives_a_short_the_last_number(alloc)?);
+        assert!(rt; gives_a_batch_the_last_number(alloc)?);
+        assert!(rt; gives_no_later_number(alloc)?);
+        assert!(rt; has_a_last_epoch(alloc)?);
+        assert!(rt; reaches_in_one_session(alloc)?);
+        assert!(rt; reaches_operations(alloc)?);
+        assert!(rt; reaches_sessions(alloc)?);
+        assert!(rt; reaches_writes(alloc)?);
         assert!(rt; sums_beside_shorts(alloc)?);
         assert!(rt; keeps_rows_in_order(alloc)?);
         assert!(rt; prints_much_text(alloc)?);

@@ -7,7 +7,8 @@ pub type Part = (u32, u32, &'static [(&'static str, &'static str)]);
 /// A script at a limit, and how many transactions its order has, in order of their numbers.
 pub type Limit = (&'static [Part], u32);
 
-pub const LIMITS: &[Limit] = &[
+/// What one session meets.
+pub const IN_ONE_SESSION: &[Limit] = &[
     // A session has one open transaction.
     (
         &[(
@@ -41,7 +42,11 @@ pub const LIMITS: &[Limit] = &[
         )],
         2,
     ),
-    // As many operations as a transaction may have, and one more; the transaction goes on without it.
+];
+
+/// As many operations as a transaction may have, and one more.
+pub const OPERATIONS: &[Limit] = &[
+    // The transaction goes on without it.
     (
         &[
             (0, 1, &[("1 short", "begun 1")]),
@@ -78,7 +83,11 @@ pub const LIMITS: &[Limit] = &[
         ],
         2,
     ),
-    // All sessions at once.
+];
+
+/// All sessions at once.
+pub const SESSIONS: &[Limit] = &[
+    // Shorts.
     (
         &[
             (1, 1_025, &[("# short", "begun #")]),
@@ -87,7 +96,7 @@ pub const LIMITS: &[Limit] = &[
         ],
         1_024,
     ),
-    // A batch in each session: all become live at once, and hold the table until the last one is gone.
+    // Batches: all become live at once, and hold the table until the last one is gone.
     (
         &[
             (1, 1_025, &[("# long W=0", "begun # at 2")]),
@@ -108,6 +117,10 @@ pub const LIMITS: &[Limit] = &[
         ],
         1,
     ),
+];
+
+/// Many writes.
+pub const WRITES: &[Limit] = &[
     // A commit of 20,000 writes.
     (
         &[
