@@ -14,7 +14,8 @@ use Rattle.ltx_model.specs.Notes.{AreNotesBy}
 use Rattle.ltx_model.specs.Decisions.{IsAskedLook}
 use Rattle.ltx_model.specs.Records.{AreRecordsOf}
 use Rattle.ltx_model.specs.Operations.{Transaction}
-use Rattle.ltx_model.specs.Agenda.{number_of, serial, commits_of, has_slot}
+use Rattle.ltx_model.specs.Agenda.{number_of, Timed, serial, commits_of, has_slot}
+use Rattle.ltx_model.specs.Frames.{SlotEvent}
 use Rattle.ltx_model.specs.States.{Declaration, Kind, IsShort, IsPending, IsLive, Step, Active, Base, State, is_of}
 use Rattle.ltx_model.specs.Histories.{made_live, state}
 use Rattle.ltx_model.specs.Holders.{Holder, live_from_now}
@@ -22,6 +23,9 @@ use Rattle.ltx_model.specs.Answers.{advance}
 use Rattle.ltx_model.specs.Limits.{last_epoch, last_number}
 use Rattle.ltx_laws.specs.Structure.{IsPendingBatch, IsLiveBatch, Stands, StandsAs, Structure}
 use Rattle.ltx_laws.proofs.Structures.{structure_of}
+use Rattle.ltx_laws.proofs.DropsFrames.{sealed_events}
+use Rattle.ltx_laws.proofs.DropsHistories.{AreTimely, slots_epoch, timely_of}
+use Rattle.ltx_laws.proofs.DurableReplies.{durable_closed}
 use Rattle.ltx_laws.proofs.FloorCounts.{slots_of}
 use Rattle.ltx_laws.proofs.StructureSlots.{live_in}
 use Rattle.ltx_lemmas.proofs.Lists.{all_map, all_append, all_contains, all_from, all_mapped, all_of_map, contains_none, find_none, find_none_from}
@@ -31,14 +35,19 @@ use Rattle.ltx_store.specs.Kept.{AreUpTo, versions_at, rows_at}
 use Rattle.ltx_store.proofs.Changes.{latest_at, up_to_items}
 use Rattle.ltx_core.specs.Built.{built}
 use Rattle.ltx_core.specs.Since.{has_batch_since}
-use Rattle.ltx_core.specs.declared.stage.Stage.{Stage}
-use Rattle.ltx_core.specs.declared.stage.Stage.TheVariants as stages
-use Rattle.ltx_core.specs.Views.{OpenView, Counters, CoreView, pending, gone_live, live_at}
-use Rattle.ltx_core.specs.Slots.{opened}
+use Rattle.ltx_open.specs.declared.stage.Stage.{Stage}
+use Rattle.ltx_open.specs.declared.stage.Stage.TheVariants as stages
+use Rattle.ltx_open.specs.Views.{OpenView, gone_live, live_at}
+use Rattle.ltx_core.specs.Views.{Counters, CoreView, pending, AreEventsWithin}
+use Rattle.ltx_open.specs.Slots.{opened}
 use Rattle.ltx_core.specs.Epochs.{pending_numbers, AreNew}
 use Rattle.ltx_core.specs.Stands.{Ground, ground, everybody, write_seen, IsLiveOpen, IsOfKind, IsOpen, IsFound, AreApart, IsSlotOf, HasStore, HasOpens, batches_of, IsStanding, StandsAt}
-use Rattle.ltx_core.specs.Steps.{Steps, IsCore}
+use Rattle.ltx_core.specs.Logged.{events_at, IsLogged}
+use Rattle.ltx_core.specs.Steps.{Steps, Logs, IsAnswered, IsCore}
 use Rattle.ltx_core.proofs.LiveAreas.{areas_live}
+use Rattle.ltx_core.proofs.LogMoves.{between_advanced, at_advanced, slot_events}
+use Rattle.ltx_core.proofs.LogSteps.{logged_after}
+use Rattle.ltx_core.proofs.LogWithin.{events_advanced}
 use Rattle.ltx_core.proofs.RecordsKept.{records_grown}
 use Rattle.ltx_core.proofs.StandsStill.{staged_is, leads, stays, same_core}
 use Rattle.ltx_core.proofs.CoreSteps.{core_step}
@@ -46,7 +55,7 @@ use Rattle.ltx_core.proofs.EpochSlots.{grown, members_of, advanced_is, members_n
 
 -- What a core keeps in the next epoch.
 pub record HasAdvanced (old new : CoreView) : Type 0 where
-  pub counters : new.counters ≡ record { epoch = old.counters.epoch + 1; durable = old.counters.durable; last = old.counters.last }
+  pub counters : new.counters ≡ record { epoch = old.counters.epoch + 1; last = old.counters.last }
   pub list : new.list ≡ old.list ++ pending_numbers old.preserve
   pub room : new.room + pending old.preserve ≡ old.room
   pub commits : new.commits ≡ old.commits
@@ -56,6 +65,11 @@ pub record HasAdvanced (old new : CoreView) : Type 0 where
   pub opens : (session : ℕ) → opened new.opens session ≡ option_map (gone_live old.commits) (opened old.opens session)
   pub records : new.records ≡ old.records
   pub areas : new.areas ≡ old.areas
+  pub durable : new.log.durable ≡ old.log.durable
+  pub closed : new.log.events.closed ≡ old.log.events.closed ++ old.log.events.present
+  pub present : new.log.events.present ≡ map SlotEvent (pending_numbers old.preserve)
+  pub spare : new.log.events.room + pending old.preserve ≡ old.log.events.room
+  pub last : new.log.events.last ≡ old.log.events.last
 
 -- the ground of a core at a state, after the slots of an epoch
 abbrev more_ground : Ground → ℕ → List Active → Ground
@@ -173,8 +187,8 @@ advanced_at base old new s structure marks at has = record {
   records = subst (AreRecordsOf (grown s (s.epoch + 1))) (sym has.records) (records_grown base s structure old.records at.records);
   areas = has.areas ∙ at.areas ∙ sym (areas_live (serial s.agenda) s.active);
 } where
-  counted : ◌≡◌ {A = Counters} (record { epoch = old.counters.epoch + 1; durable = old.counters.durable; last = old.counters.last }) (record { epoch = s.epoch + 1; durable = s.durable; last = s.last })
-  counted i = record { epoch = (at.counters i).epoch + 1; durable = (at.counters i).durable; last = (at.counters i).last }
+  counted : ◌≡◌ {A = Counters} (record { epoch = old.counters.epoch + 1; last = old.counters.last }) (record { epoch = s.epoch + 1; last = s.last })
+  counted i = record { epoch = (at.counters i).epoch + 1; last = (at.counters i).last }
 
   grounds : more_ground (ground old s) (s.epoch + 1) s.active ≡ ground new (grown s (s.epoch + 1))
   grounds i = record { store = sym has.store i; commits = sym has.commits i; batch = sym has.batch i; base = s.base; agenda = s.agenda ++ members_of s.active; moves = s.moves ++ slots_of (s.epoch + 1) s.active }
@@ -187,7 +201,7 @@ advance_full v full base history sound legal stands =
     stays v v commands.Epoch replies.LimitEpoch base history (same_core v v refl) stands replies.LimitEpoch (ap (advance s) (sym (eq-eqb s.epoch last_epoch is)) ∙ staged_is s commands.Epoch) refl refl
 
 -- there is one
-pub advance_done : (v new : CoreView) → AreUpTo v.commits v.store → v.counters.epoch ≢ last_epoch → HasAdvanced v new → Steps v commands.Epoch (replies.Advanced (v.counters.epoch + 1)) new
+advance_done : (v new : CoreView) → AreUpTo v.commits v.store → v.counters.epoch ≢ last_epoch → HasAdvanced v new → Steps v commands.Epoch (replies.Advanced (v.counters.epoch + 1)) new
 advance_done v new marks apart has base history sound legal stands =
     let s : State = state base history in
     let epoch : v.counters.epoch ≡ s.epoch = ap (λ (c : Counters). c.epoch) stands.counters in
@@ -197,6 +211,27 @@ advance_done v new marks apart has base history sound legal stands =
     (ap (advance s) (sym not_last) ∙ staged_is s commands.Epoch)
     (ap (λ n. replies.Advanced (n + 1)) epoch)
     (subst (StandsAt new) (sym (advanced_is s (s.epoch + 1))) (advanced_at base v new s structure marks stands has))
+
+-- what is kept for the log: the events of the epoch that ended are closed
+advance_logs : (v new : CoreView) → v.counters.epoch ≢ last_epoch → HasAdvanced v new → Logs v commands.Epoch (replies.Advanced (v.counters.epoch + 1)) new
+advance_logs v new apart has base history sound legal stands =
+    let s : State = state base history in
+    let epoch : v.counters.epoch ≡ s.epoch = ap (λ (c : Counters). c.epoch) stands.at.counters in
+    let timely : AreTimely s = timely_of built base history legal in
+    let ahead : s.durable < s.epoch = durable_closed built base history sound legal in
+    let slots : List Timed = slots_of (s.epoch + 1) s.active in
+    let next : AllByRecursion (λ m. m.epoch ≡ s.epoch + 1) slots = slots_epoch (s.epoch + 1) s.active in
+    let is : IsLogged v.log s = stands.logged in
+    let then : State = grown s (s.epoch + 1) in
+    let logged : IsLogged new.log then = record {
+      durable = has.durable ∙ is.durable;
+      closed = has.closed ∙ (λ i. is.closed i ++ is.present i) ∙ ap (λ es. es ++ events_at s.epoch s.moves) (sealed_events s) ∙ sym (between_advanced s.durable s.epoch s.moves slots ahead timely.bound timely.rising next) ∙ sym (sealed_events then);
+      present = has.present ∙ ap (λ hs. map SlotEvent (pending_numbers hs)) stands.at.holders ∙ sym (slot_events (s.epoch + 1) s.active) ∙ sym (at_advanced s.epoch s.moves slots timely.bound next);
+    } in
+    logged_after new.log base history (lines.Good commands.Epoch) (replies.Advanced (s.epoch + 1)) (replies.Advanced (v.counters.epoch + 1)) (ap (λ n. replies.Advanced (n + 1)) epoch) (subst (IsLogged new.log) (sym (advanced_is s (s.epoch + 1))) logged)
+
+pub advance_answered : (v new : CoreView) → AreUpTo v.commits v.store → v.counters.epoch ≢ last_epoch → HasAdvanced v new → IsAnswered v commands.Epoch (replies.Advanced (v.counters.epoch + 1)) new
+advance_answered v new marks apart has = record { steps = advance_done v new marks apart has; logs = advance_logs v new apart has }
 
 -- the numbers of the slots are new
 pub standing_slots : (v : CoreView) → IsStanding v → AreNew v.list (pending_numbers v.preserve)
@@ -227,5 +262,8 @@ advanced_core v new core apart has =
       room = room;
       listed = listed;
       epoch_bound = subst (λ (c : Counters). c.epoch ≤ last_epoch) (sym has.counters) bound;
+      epoch_positive = subst (λ (c : Counters). 0 < c.epoch) (sym has.counters) (let h : 0 < v.counters.epoch + 1 = omega arith in h);
       last_bound = subst (λ (c : Counters). c.last ≤ last_number) (sym has.counters) core.within.last_bound;
+      log = subst (λ (c : Counters). AreEventsWithin c.epoch (pending new.preserve) new.log.events) (sym has.counters)
+          (events_advanced v.counters.epoch (pending v.preserve) (pending new.preserve) v.log.events new.log.events (pending_numbers v.preserve) core.within.log has.closed has.present has.last (let h : pending new.preserve ≤ new.log.events.room = omega arith in h));
     })

@@ -27,16 +27,20 @@ use Rattle.ltx_laws.proofs.Pairs.{all_both}
 use Rattle.ltx_lemmas.proofs.Lists.{without_nothing, given_append, any_append, true_false}
 use Rattle.ltx_core.specs.Built.{built}
 use Rattle.ltx_forward.specs.declared.decide.Live.{Live}
-use Rattle.ltx_core.specs.declared.stage.Declared.{Declared}
-use Rattle.ltx_core.specs.declared.stage.Stage.TheVariants as stages
-use Rattle.ltx_core.specs.Views.{OpenView, Counters, CoreView, pending, declaration}
-use Rattle.ltx_core.specs.Slots.{opened, HasAt}
-use Rattle.ltx_core.specs.Stands.{ground, everybody, AreMarked, IsOfKind, IsOpen, IsSlotOf, HasStore, HasOpens, batches_of, areas_of, IsStanding, StandsAt, StandsFor}
-use Rattle.ltx_core.specs.Steps.{Steps, IsCore}
+use Rattle.ltx_open.specs.declared.stage.Declared.{Declared}
+use Rattle.ltx_open.specs.declared.stage.Stage.TheVariants as stages
+use Rattle.ltx_open.specs.Views.{OpenView, declaration}
+use Rattle.ltx_core.specs.Views.{Counters, LogView, CoreView, pending, AreEventsWithin}
+use Rattle.ltx_open.specs.Slots.{opened, HasAt}
+use Rattle.ltx_core.specs.Stands.{ground, everybody, AreMarked, IsOfKind, IsOpen, IsSlotOf, HasStore, HasOpens, batches_of, areas_of, IsStanding, StandsAt}
+use Rattle.ltx_core.specs.Steps.{Steps, IsAnswered, IsCore}
 use Rattle.ltx_core.proofs.LiveAreas.{areas_more}
+use Rattle.ltx_core.proofs.LogSteps.{log_kept, IsCalm, calm_answered}
 use Rattle.ltx_core.proofs.RecordsKept.{records_begun_short, records_begun_long}
+use Rattle.ltx_core.proofs.LogWithin.{IsRoomed, events_same, events_roomed}
 use Rattle.ltx_core.proofs.OpensKept.{opens_begun}
-use Rattle.ltx_core.proofs.StandsStill.{staged_is, leads, stays, same_core, same_opens}
+use Rattle.ltx_open.proofs.SameOpens.{same_opens}
+use Rattle.ltx_core.proofs.StandsStill.{staged_is, leads, stays, same_core}
 use Rattle.ltx_core.proofs.CoreSteps.{core_step, core_same}
 use Rattle.ltx_core.proofs.NewCores.{has_tells}
 use Rattle.ltx_store.specs.Kept.{AreUpTo, HasSameVersions}
@@ -96,7 +100,7 @@ slot_more hs last n tables (Committed t) next within slot =
 
 -- What is kept besides the transaction that begins.
 pub record HasBegun (old : CoreView) (session : ℕ) (a : OpenView) (holders : List Holder) (more : List Live) (new : CoreView) : Type 0 where
-  pub counters : new.counters ≡ record { epoch = old.counters.epoch; durable = old.counters.durable; last = old.counters.last + 1 }
+  pub counters : new.counters ≡ record { epoch = old.counters.epoch; last = old.counters.last + 1 }
   pub list : new.list ≡ old.list
   pub commits : new.commits ≡ old.commits
   pub batch : new.batch ≡ old.batch
@@ -130,8 +134,8 @@ begun_at old new s session kind a at here has recorded slots is_open = record {
   others : without_first (is_of session) s.active ≡ s.active
   others = without_nothing (is_of session) s.active here
 
-  counted : ◌≡◌ {A = Counters} (record { epoch = old.counters.epoch; durable = old.counters.durable; last = old.counters.last + 1 }) (record { epoch = s.epoch; durable = s.durable; last = s.last + 1 })
-  counted i = record { epoch = (at.counters i).epoch; durable = (at.counters i).durable; last = (at.counters i).last + 1 }
+  counted : ◌≡◌ {A = Counters} (record { epoch = old.counters.epoch; last = old.counters.last + 1 }) (record { epoch = s.epoch; last = s.last + 1 })
+  counted i = record { epoch = (at.counters i).epoch; last = (at.counters i).last + 1 }
 
   grounds : ground old s ≡ ground new s
   grounds i = record { store = sym has.store i; commits = sym has.commits i; batch = sym has.batch i; base = s.base; agenda = s.agenda; moves = s.moves }
@@ -141,7 +145,7 @@ has_open : (o : Option Active) → is_some o ≡ false → o ≡ None
 has_open None is = refl
 has_open (Some o) is = absurd (true_false is)
 
-module _ (old : CoreView) (base : Base) (history : List Entry) (stands : StandsFor old base history) where
+module _ (old : CoreView) (base : Base) (history : List Entry) (stands : StandsAt old (state base history)) where
   abbrev now : State
   now = state base history
 
@@ -152,18 +156,21 @@ module _ (old : CoreView) (base : Base) (history : List Entry) (stands : StandsF
   epoch_is = ap (λ (c : Counters). c.epoch) stands.counters
 
 -- the view of a core is what a caller has of it
-pub for_view : (v old : CoreView) (command : Command) (reply : Reply) (new : CoreView) → v ≡ old → Steps v command reply new → Steps old command reply new
-for_view v old command reply new same steps = subst (λ u. Steps u command reply new) same steps
+pub for_view : (v old : CoreView) (command : Command) (reply : Reply) (new : CoreView) → v ≡ old → IsAnswered v command reply new → IsAnswered old command reply new
+for_view v old command reply new same steps = subst (λ u. IsAnswered u command reply new) same steps
 
-pub stays_for_view : (v old : CoreView) (command : Command) (reply : Reply) → v ≡ old → Steps v command reply v → Steps old command reply old
-stays_for_view v old command reply same steps = subst (λ u. Steps u command reply u) same steps
+pub steps_for_view : (v old : CoreView) (command : Command) (reply : Reply) (new : CoreView) → v ≡ old → Steps v command reply new → Steps old command reply new
+steps_for_view v old command reply new same steps = subst (λ u. Steps u command reply new) same steps
+
+pub stays_for_view : (v old : CoreView) (command : Command) (reply : Reply) → v ≡ old → Steps v command reply v → IsCalm (lines.Good command) reply → IsAnswered old command reply old
+stays_for_view v old command reply same steps calm = subst (λ u. IsAnswered u command reply u) same (calm_answered v command reply v steps (log_kept v.log) calm)
 
 -- without a change: the session has one, or no number or epoch is left
 module _ (v : CoreView) (session : ℕ) (b : Bool) (is : b ≡ is_some (opened v.opens session)) where
-  there : b ≡ true → (base : Base) (history : List Entry) → StandsFor v base history → is_some (active_of (state base history) session) ≡ true
+  there : b ≡ true → (base : Base) (history : List Entry) → StandsAt v (state base history) → is_some (active_of (state base history) session) ≡ true
   there holds base history stands = sym (has_tells v v refl session b is base history stands) ∙ holds
 
-  nobody : b ≡ false → (base : Base) (history : List Entry) → StandsFor v base history → active_of (state base history) session ≡ None
+  nobody : b ≡ false → (base : Base) (history : List Entry) → StandsAt v (state base history) → active_of (state base history) session ≡ None
   nobody fails base history stands = has_open (active_of (state base history) session) (sym (has_tells v v refl session b is base history stands) ∙ fails)
 
   short_told : (s : State) (o : Option Active) → is_some o ≡ true → replies.HasTx ≡ begin_short s o
@@ -289,48 +296,58 @@ standing_few v standing =
 
 -- a core that keeps the same, with other room
 pub begin_failed : (v new : CoreView) → IsCore v → new.counters ≡ v.counters → new.list ≡ v.list → new.commits ≡ v.commits → new.batch ≡ v.batch → new.store ≡ v.store → new.preserve ≡ v.preserve
-    → ((n : ℕ) → opened new.opens n ≡ opened v.opens n) → new.records ≡ v.records → new.areas ≡ v.areas → v.room ≤ new.room → length new.list + new.room < 18446744073709551616 → IsCore new
-begin_failed v new core counters list commits batch store preserve opens records areas room listed =
+    → ((n : ℕ) → opened new.opens n ≡ opened v.opens n) → new.records ≡ v.records → new.areas ≡ v.areas → new.log.durable ≡ v.log.durable → IsRoomed v.log.events new.log.events → v.room ≤ new.room → length new.list + new.room < 18446744073709551616
+    → IsCore new
+begin_failed v new core counters list commits batch store preserve opens records areas durable roomed room listed =
     let some : pending v.preserve ≤ v.room = core.within.room in
     let more : pending v.preserve ≤ new.room = omega arith in
     core_same v new
-    (record { counters = counters; list = list; commits = commits; batch = batch; store = subst (HasSameVersions v.store) (sym store) (same_itself v.store); preserve = preserve; opens = same_opens v.opens new.opens opens; records = records; areas = areas }) core.standing
+    (record { counters = counters; list = list; commits = commits; batch = batch; store = subst (HasSameVersions v.store) (sym store) (same_itself v.store); preserve = preserve; opens = same_opens v.opens new.opens opens; records = records; areas = areas; log = record { durable = durable; closed = roomed.closed; present = roomed.present } }) core.standing
     (record {
       marks = subst (λ n. AreUpTo n new.store) (sym commits) (subst (AreUpTo v.commits) (sym store) core.within.marks);
       room = subst (λ hs. pending hs ≤ new.room) (sym preserve) more;
       listed = listed;
       epoch_bound = subst (λ (c : Counters). c.epoch ≤ last_epoch) (sym counters) core.within.epoch_bound;
+      epoch_positive = subst (λ (c : Counters). 0 < c.epoch) (sym counters) core.within.epoch_positive;
       last_bound = subst (λ (c : Counters). c.last ≤ last_number) (sym counters) core.within.last_bound;
+      log = subst (λ (c : Counters). AreEventsWithin c.epoch (pending new.preserve) new.log.events) (sym counters)
+          (subst (λ hs. AreEventsWithin v.counters.epoch (pending hs) new.log.events) (sym preserve) (events_roomed v.counters.epoch (pending v.preserve) v.log.events new.log.events core.within.log roomed));
     })
 
 pub begun_core : (v new : CoreView) (command : Command) (reply : Reply) (session : ℕ) (a : OpenView) (holders : List Holder) (areas : List Live) → IsCore v → Steps v command reply new → HasBegun v session a holders areas new → v.counters.last < last_number
-    → pending new.preserve ≤ new.room → length new.list + new.room < 18446744073709551616 → IsCore new
-begun_core v new command reply session a holders areas core steps has below room listed =
+    → pending new.preserve ≤ new.room → length new.list + new.room < 18446744073709551616 → AreEventsWithin v.counters.epoch (pending new.preserve) new.log.events → IsCore new
+begun_core v new command reply session a holders areas core steps has below room listed events =
     let next : v.counters.last + 1 ≤ last_number = omega arith in
     core_step v command reply new steps core.standing (record {
       marks = subst (λ n. AreUpTo n new.store) (sym has.commits) (subst (AreUpTo v.commits) (sym has.store) core.within.marks);
       room = room;
       listed = listed;
       epoch_bound = subst (λ (c : Counters). c.epoch ≤ last_epoch) (sym has.counters) core.within.epoch_bound;
+      epoch_positive = subst (λ (c : Counters). 0 < c.epoch) (sym has.counters) core.within.epoch_positive;
       last_bound = subst (λ (c : Counters). c.last ≤ last_number) (sym has.counters) next;
+      log = subst (λ (c : Counters). AreEventsWithin c.epoch (pending new.preserve) new.log.events) (sym has.counters) events;
     })
 
 -- and what holds of every core
 module _ (v : CoreView) (core : IsCore v) (session : ℕ) (b : Bool) (is : b ≡ is_some (opened v.opens session)) where
   pub short_core : (a : OpenView) (tx : ℕ) (new : CoreView) → b ≡ false → v.counters.last < last_number → tx ≡ v.counters.last + 1 → a.number ≡ tx → a.stage ≡ stages.Short → a.notes ≡ no_notes → a.own.writes ≡ []
-      → HasBegun v session a [] [] new → new.room ≡ v.room → IsCore new
-  short_core a tx new fails below next number stage notes own has room =
+      → HasBegun v session a [] [] new → new.room ≡ v.room → new.log ≡ v.log → IsCore new
+  short_core a tx new fails below next number stage notes own has room log =
       let some : pending v.preserve ≤ v.room = core.within.room in
       let there : pending new.preserve ≤ new.room = subst (λ hs. pending hs ≤ new.room) (sym (has.preserve ∙ append-nil v.preserve)) (subst (λ n. pending v.preserve ≤ n) (sym room) some) in
       let listed : length new.list + new.room < 18446744073709551616 = subst (λ n. length new.list + n < 18446744073709551616) (sym room) (subst (λ l. length l + v.room < 18446744073709551616) (sym has.list) core.within.listed) in
-      begun_core v new (shorts session) (replies.Begun tx) session a [] [] core (short_begins v session b is a tx new fails below next number stage notes own has) has below there listed
+      let events : AreEventsWithin v.counters.epoch (pending new.preserve) new.log.events
+      = subst (λ (l : LogView). AreEventsWithin v.counters.epoch (pending new.preserve) l.events) (sym log) (subst (λ hs. AreEventsWithin v.counters.epoch (pending hs) v.log.events) (sym (has.preserve ∙ append-nil v.preserve)) core.within.log) in
+      begun_core v new (shorts session) (replies.Begun tx) session a [] [] core (short_begins v session b is a tx new fails below next number stage notes own has) has below there listed events
 
   pub long_core : (a : OpenView) (tx writes reads : ℕ) (e : Declared) (new : CoreView) → b ≡ false → v.counters.epoch ≢ last_epoch → v.counters.last < last_number → tx ≡ v.counters.last + 1
       → declaration e ≡ record { writes = writes; reads = reads; from = v.counters.epoch + 1 } → a.number ≡ tx → a.stage ≡ stages.Pending e → a.notes.notes ≡ [] → a.own.writes ≡ []
-      → HasBegun v session a (record { number = tx; tables = writes; live = false } ∷ []) (record { tx = tx; writes = writes; reads = reads } ∷ []) new → length v.preserve + 1 ≤ new.room → length new.list + new.room < 18446744073709551616 → IsCore new
-  long_core a tx writes reads e new fails early below next declared number stage notes own has room listed =
+      → HasBegun v session a (record { number = tx; tables = writes; live = false } ∷ []) (record { tx = tx; writes = writes; reads = reads } ∷ []) new → length v.preserve + 1 ≤ new.room → length new.list + new.room < 18446744073709551616
+      → IsRoomed v.log.events new.log.events → length v.preserve + 1 ≤ new.log.events.room → IsCore new
+  long_core a tx writes reads e new fails early below next declared number stage notes own has room listed roomed spare =
       let most : pending (entered tx writes v.preserve) ≤ length v.preserve + 1 = more_pending v.preserve tx writes in
       let less : pending (entered tx writes v.preserve) ≤ new.room = omega arith in
       let there : pending new.preserve ≤ new.room = subst (λ hs. pending hs ≤ new.room) (sym has.preserve) less in
       begun_core v new (longs session writes reads) (replies.BegunAt tx (v.counters.epoch + 1)) session a (record { number = tx; tables = writes; live = false } ∷ []) (record { tx = tx; writes = writes; reads = reads } ∷ []) core
       (long_begins v session b is a tx writes reads e new fails early below next declared number stage notes own has) has below there listed
+      (events_same v.counters.epoch (pending v.preserve) (pending new.preserve) v.log.events new.log.events core.within.log roomed.closed roomed.present roomed.last (subst (λ hs. pending hs ≤ new.log.events.room) (sym has.preserve) (let h : pending (entered tx writes v.preserve) ≤ new.log.events.room = omega arith in h)))

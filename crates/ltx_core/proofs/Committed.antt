@@ -23,6 +23,7 @@ use Rattle.ltx_model.specs.Records.{AreRecordsOf}
 use Rattle.ltx_model.specs.Agenda.{Committed, CommitShort, Timed, has_number, commit_of, commits_of, serial, part_from}
 use Rattle.ltx_model.specs.Holders.{is_entered}
 use Rattle.ltx_model.specs.States.{Declaration, IsShort, IsLive, Step, Active, Base, IsSound, State, transaction_of, is_of, active_of, latest}
+use Rattle.ltx_model.specs.Frames.{ShortEvent, writes_in}
 use Rattle.ltx_model.specs.Histories.{to_active, closed, moved, committed, commit_move, ended, state}
 use Rattle.ltx_model.specs.Shorts.{Held, Change, holder, held_table}
 use Rattle.ltx_model.specs.Verdicts.{Verdict, Passes, RefusedAsHeld, RefusedAsChanged, ops_of, IsVerdict, reply_by}
@@ -41,16 +42,18 @@ use Rattle.ltx_chain.specs.Versions as versions
 use Rattle.ltx_reads.specs.Noted.{HasNoted}
 use Rattle.ltx_store.specs.Kept.{versions_at, rows_at, latest_rows}
 use Rattle.ltx_validate.specs.Verdicts.{AreMarkedAt, AreHolders}
-use Rattle.ltx_core.specs.declared.stage.Stage.TheVariants as stages
+use Rattle.ltx_open.specs.declared.stage.Stage.TheVariants as stages
 use Rattle.ltx_core.specs.Built.{built}
 use Rattle.ltx_core.specs.Since.{has_batch_since}
-use Rattle.ltx_core.specs.Views.{OpenView, CoreView}
-use Rattle.ltx_core.specs.Slots.{opened, HasAt}
+use Rattle.ltx_open.specs.Views.{OpenView}
+use Rattle.ltx_core.specs.Views.{CoreView}
+use Rattle.ltx_open.specs.Slots.{opened, HasAt}
 use Rattle.ltx_core.specs.Installed.{HasInstalled}
 use Rattle.ltx_core.specs.Commits.{HasCommitted}
 use Rattle.ltx_core.specs.Recorded.{is_any_live, HasRecordedShort}
-use Rattle.ltx_core.specs.Stands.{Ground, ground, everybody, write_seen, WritesNone, IsShortOpen, IsSlotAt, IsSlotOf, HasMark, HasAgenda, HasStore, HasOpens, StandsAt, StandsFor, batches_of}
-use Rattle.ltx_core.specs.Steps.{Steps}
+use Rattle.ltx_core.specs.Stands.{Ground, ground, everybody, write_seen, WritesNone, IsShortOpen, IsSlotAt, IsSlotOf, HasMark, HasAgenda, HasStore, HasOpens, StandsAt, batches_of}
+use Rattle.ltx_core.specs.Logged.{IsLogged}
+use Rattle.ltx_core.specs.Steps.{Steps, Logs}
 use Rattle.ltx_core.proofs.Grounds.{IsLater, KeepsSlot, open_later}
 use Rattle.ltx_core.proofs.OpensKept.{as_short, opens_on, FoundOpen, opens_ended}
 use Rattle.ltx_core.proofs.Ended.{some_open, left_core, ended_stands}
@@ -63,6 +66,7 @@ use Rattle.ltx_core.proofs.HomeRuns.{AreUnwritten, rows_between, written_between
 use Rattle.ltx_core.proofs.SlotsLater.{or_false, slot_later, since_later}
 use Rattle.ltx_core.proofs.CommittedHome.{seen_before}
 use Rattle.ltx_core.proofs.LiveAreas.{areas_short}
+use Rattle.ltx_core.proofs.LogSteps.{logged_after, logged_event}
 use Rattle.ltx_core.proofs.RecordsKept.{IsNoted, no_holders, noted_as, short_recorded, short_counted}
 use Rattle.ltx_core.proofs.Batches.{without_short}
 use Rattle.ltx_core.proofs.HoldersLess.{entered_gone}
@@ -103,7 +107,7 @@ touches_written (op ∷ ops) cell is = by_test (writes_at cell op) refl is (touc
   by_test false none is later = ap (λ b. (table_of op == cell.table) || b) (later is) ∙ or_true (table_of op == cell.table)
 
 module _ (old : CoreView) (session : ℕ) (a : OpenView) (here : opened old.opens session ≡ Some a) (short : a.stage ≡ stages.Short) (base : Base) (history : List Entry) (sound : IsSound base) (legal : IsLegalWith built base history)
-    (stands : StandsFor old base history) where
+    (stands : StandsAt old (state base history)) where
   abbrev s : State
   s = state base history
 
@@ -308,3 +312,18 @@ commit_passed old session a reply new here short judged says done base history s
     leads base history (Good (commits_at session)) (replies.Committed s.epoch) reply new
     (replied old session a here short base history sound legal stands Passes judged ∙ staged_is s (commits_at session))
     (says ∙ ap (λ c. replies.Committed c.epoch) stands.counters) (accepted_stands old session a here short base history sound legal stands judged new done)
+
+-- and its event is kept for the log
+pub passed_logs : (old : CoreView) (session : ℕ) (a : OpenView) (reply : Reply) (new : CoreView) → opened old.opens session ≡ Some a → a.stage ≡ stages.Short → JudgedBy old a Passes → reply ≡ replies.Committed old.counters.epoch → HasCommitted old session a new
+    → Logs old (commits_at session) reply new
+passed_logs old session a reply new here short judged says done base history sound legal stands =
+    let s : State = state base history in
+    let found : FoundOpen (ground old s) old.opens s.active stands.at.opens session a = some_open old session s stands.at a here in
+    let kind : found.open_tx.kind ≡ IsShort = (as_short (ground old s) found.open_tx.number found.open_tx.steps a found.open_tx.kind a.stage short found.is_open.kind).0 in
+    let t : Transaction = transaction_of found.open_tx in
+    let own : a.own.writes ≡ writes_in t = found.is_open.own ∙ ap writes_of (sym (steps_ops found.open_tx.steps)) in
+    let event : ShortEvent a.number old.counters.epoch a.own.writes ≡ ShortEvent t.number s.epoch (writes_in t) = λ i. ShortEvent (found.is_open.number i) (stands.at.counters i).epoch (own i) in
+    logged_after new.log base history (Good (commits_at session)) (replies.Committed s.epoch) reply (says ∙ ap (λ c. replies.Committed c.epoch) stands.at.counters)
+    (subst (λ f. IsLogged new.log (to_active s f (λ u. committed s u session))) (sym found.found)
+    (subst (λ k. IsLogged new.log (moved (closed s session) s.epoch (commit_move k t))) (sym kind)
+    (logged_event old.log new.log s session (CommitShort t) (ShortEvent a.number old.counters.epoch a.own.writes) (ShortEvent t.number s.epoch (writes_in t)) done.log event refl stands.logged)))

@@ -18,8 +18,9 @@ use Rattle.ltx_model.specs.Holders.{is_entered, holder_of, removed}
 use Rattle.ltx_lemmas.proofs.Lists.{given_append}
 use Rattle.ltx_laws.specs.Structure.{Structure}
 use Rattle.ltx_laws.proofs.NumberLists.{numbers_after}
-use Rattle.ltx_core.specs.declared.stage.Declared.{Declared}
-use Rattle.ltx_core.specs.Views.{OpenView, CoreView}
+use Rattle.ltx_open.specs.declared.stage.Declared.{Declared}
+use Rattle.ltx_open.specs.Views.{OpenView}
+use Rattle.ltx_core.specs.Views.{CoreView}
 use Rattle.ltx_core.specs.Installed.{installed_writes, HasInstalledUnless}
 use Rattle.ltx_core.specs.Decided.{list_at, HasCommittedAt}
 use Rattle.ltx_core.specs.Stands.{ground, IsSlotOf, HasAgenda, HasStore, HasOpens, batches_of, areas_of, StandsAt}

@@ -16,6 +16,7 @@ use Rattle.ltx_model.specs.LastWrites.{last_write}
 use Rattle.ltx_model.specs.Agenda.{Member, LiveSlot, Committed, has_number, commit_at_slot, CommitHome, Timed, commit_of, commits_of, serial, part_before, part_from}
 use Rattle.ltx_model.specs.Marks.{IsMarkOfSlot}
 use Rattle.ltx_model.specs.States.{Kind, Active, transaction_of, Base, IsSound, State, is_of}
+use Rattle.ltx_model.specs.Frames.{BatchEvent, writes_in}
 use Rattle.ltx_model.specs.Histories.{to_active, closed, moved, committed, commit_move, state}
 use Rattle.ltx_model.specs.Holders.{Holder, is_entered, holder_of, removed}
 use Rattle.ltx_lemmas.proofs.Lists.{true_false, given_append}
@@ -30,18 +31,21 @@ use Rattle.ltx_chain.specs.Versions as versions
 use Rattle.ltx_chain.proofs.Seen.{visible-append}
 use Rattle.ltx_store.specs.Kept.{Kept, versions_at, latest_rows, HasSameVersions}
 use Rattle.ltx_preserve.specs.Kept.{is_live_below}
-use Rattle.ltx_core.specs.declared.stage.Declared.{Declared}
-use Rattle.ltx_core.specs.declared.stage.Stage.TheVariants as stages
+use Rattle.ltx_open.specs.declared.stage.Declared.{Declared}
+use Rattle.ltx_open.specs.declared.stage.Stage.TheVariants as stages
 use Rattle.ltx_core.specs.Built.{built}
 use Rattle.ltx_core.specs.Since.{is_batch_commit, has_batch_since, has_elder}
-use Rattle.ltx_core.specs.Views.{OpenView, CoreView, declaration}
-use Rattle.ltx_core.specs.Slots.{opened}
+use Rattle.ltx_open.specs.Views.{OpenView, declaration}
+use Rattle.ltx_core.specs.Views.{CoreView}
+use Rattle.ltx_open.specs.Slots.{opened}
 use Rattle.ltx_core.specs.Installed.{version_by, HasInstalled}
 use Rattle.ltx_core.specs.Commits.{HasCommittedHome}
 use Rattle.ltx_core.specs.Stands.{Ground, ground, IsSlotAt, IsSlotOf, HasMark, HasAgenda, HasStore, HasOpens, batches_of, write_seen, StandsAt}
-use Rattle.ltx_core.specs.Steps.{Steps}
+use Rattle.ltx_core.specs.Logged.{IsLogged}
+use Rattle.ltx_core.specs.Steps.{Steps, Logs}
 use Rattle.ltx_core.proofs.Grounds.{IsLater, KeepsSlot, open_later}
 use Rattle.ltx_core.proofs.OpensKept.{opens_on, opens_ended}
+use Rattle.ltx_core.proofs.LogSteps.{logged_after, logged_event}
 use Rattle.ltx_core.proofs.StandsStill.{leads}
 use Rattle.ltx_core.proofs.Installed.{marks_installed, rows_installed}
 use Rattle.ltx_core.proofs.HomeRuns.{AreUnwritten, rows_between, written_between}
@@ -241,3 +245,16 @@ commit_home old session a e mark reply new here stage unpassed least says done b
     (subst (λ f. StandsAt new (to_active s f (λ u. committed s u session))) (sym x.found)
     (subst (λ k. StandsAt new (moved (closed s session) s.epoch (commit_move k (transaction_of x.open_tx)))) (sym x.kind)
     (home_stands old session a e mark base s sound structure stands x alone new done)))
+
+-- its event is kept for the log
+pub home_logs : (old : CoreView) (session : ℕ) (a : OpenView) (e : Declared) (mark : ℕ) (reply : Reply) (new : CoreView) → opened old.opens session ≡ Some a → a.stage ≡ stages.Live e mark
+    → reply ≡ replies.Committed old.counters.epoch → HasCommittedHome old session a new → Logs old (commits_at session) reply new
+home_logs old session a e mark reply new here stage says done base history sound legal stands =
+    let s : State = state base history in
+    let x : IsLiveAt old session a e mark s = live_at old session a e mark s here stage stands.at in
+    let t : Transaction = transaction_of x.open_tx in
+    let event : BatchEvent a.number old.counters.epoch None a.own.writes ≡ BatchEvent t.number s.epoch None (writes_in t) = λ i. BatchEvent (x.number i) (stands.at.counters i).epoch None (x.own i) in
+    logged_after new.log base history (Good (commits_at session)) (replies.Committed s.epoch) reply (says ∙ ap (λ c. replies.Committed c.epoch) stands.at.counters)
+    (subst (λ f. IsLogged new.log (to_active s f (λ u. committed s u session))) (sym x.found)
+    (subst (λ k. IsLogged new.log (moved (closed s session) s.epoch (commit_move k t))) (sym x.kind)
+    (logged_event old.log new.log s session (CommitHome t) (BatchEvent a.number old.counters.epoch None a.own.writes) (BatchEvent t.number s.epoch None (writes_in t)) done.log event refl stands.logged)))

@@ -2,7 +2,7 @@
 use Rattle.std.proofs.Common.{◌≡◌, ◌≢◌, ℕ, ◌<◌, ◌≤◌, Bool, true, false, ◌&&◌, cond, ◌==◌, nat_lt, List, [], ◌∷◌, ◌++◌, map, length, Option, Some, None, Contains, refl, sym, ap, ◌∙◌, subst, append-nil, arith}
 use Rattle.std.specs.List.{AllByRecursion}
 use Rattle.std.proofs.lemmas.List.Sorted.{Contains-permutation}
-use Rattle.ltx_core.specs.declared.stage.Stage.TheVariants as stages
+use Rattle.ltx_open.specs.declared.stage.Stage.TheVariants as stages
 use Rattle.ltx_model.specs.Decisions as decisions
 use Rattle.ltx_model.specs.Listings as listed
 use Rattle.ltx_model.specs.Agenda.{Timed, commits_after, commits_of, has_slot, is_slot, moves_until, number_of, serial}
@@ -26,10 +26,11 @@ use Rattle.ltx_model.specs.declared.writes.Look.{Look}
 use Rattle.ltx_model.specs.declared.writes.Write.{Write}
 use Rattle.ltx_laws.specs.Structure.{Structure}
 use Rattle.ltx_core.specs.Built.{built}
-use Rattle.ltx_core.specs.Slots.{opened}
-use Rattle.ltx_core.specs.Stands.{IsOfKind, StandsFor, everybody, ground}
-use Rattle.ltx_core.specs.Views.{CoreView, OpenView, declaration}
-use Rattle.ltx_core.specs.declared.stage.Declared.{Declared}
+use Rattle.ltx_open.specs.Slots.{opened}
+use Rattle.ltx_core.specs.Stands.{IsOfKind, StandsAt, everybody, ground}
+use Rattle.ltx_open.specs.Views.{OpenView, declaration}
+use Rattle.ltx_core.specs.Views.{CoreView}
+use Rattle.ltx_open.specs.declared.stage.Declared.{Declared}
 use Rattle.ltx_model.proofs.MarkPlaces.{number_found}
 use Rattle.ltx_lemmas.proofs.Lists.{all_map, all_mapped, any_map, before_past, contains_back, contains_here, find_contains, some_same, true_false}
 use Rattle.ltx_laws.proofs.Agendas.{member_not}
@@ -62,7 +63,7 @@ sure_is_asked : (asked : ℕ → Bool) (last : Cell → Option LastWrite) (cell 
 sure_is_asked asked last cell None sure = λ w is. absurd (true_false (sure w is))
 sure_is_asked asked last cell (Some look) sure = sure
 
-module _ (base : Base) (history : List Entry) (sound : IsSound base) (legal : IsLegalWith built base history) (core : CoreView) (stands : StandsFor core base history) where
+module _ (base : Base) (history : List Entry) (sound : IsSound base) (legal : IsLegalWith built base history) (core : CoreView) (stands : StandsAt core (state base history)) where
   abbrev s : State
   s = state base history
 

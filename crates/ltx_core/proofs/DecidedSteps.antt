@@ -11,22 +11,27 @@ use Rattle.ltx_model.specs.Lists.{without_first}
 use Rattle.ltx_model.specs.Answers.{commit, commit_in, commit_live, staged, IsLegalWith}
 use Rattle.ltx_model.specs.Batches.{target, Refusal, ByLate, ByContradicts, Witness}
 use Rattle.ltx_model.specs.Decisions.{Decision, CommitAt, WaitFor, RefuseAt, reply_to, IsDecision}
+use Rattle.ltx_model.specs.Frames.{BatchEvent, event_of, writes_in}
 use Rattle.ltx_model.specs.Histories.{closed, moved, committed, commit_move, committed_before, ended, to_active, reply_changes, state}
 use Rattle.ltx_model.specs.Operations.{Transaction}
 use Rattle.ltx_model.specs.Records.{AreRecordsOf}
 use Rattle.ltx_model.specs.States.{Declaration, IsLive, Active, transaction_of, Base, IsSound, State, LiveBatch, is_of, active_of}
+use Rattle.ltx_frame.specs.Events.{target_of}
 use Rattle.ltx_laws.specs.Structure.{Structure}
 use Rattle.ltx_laws.proofs.Structures.{structure_of}
-use Rattle.ltx_core.specs.declared.stage.Declared.{Declared}
-use Rattle.ltx_core.specs.declared.stage.Stage.TheVariants as stages
+use Rattle.ltx_open.specs.declared.stage.Declared.{Declared}
+use Rattle.ltx_open.specs.declared.stage.Stage.TheVariants as stages
 use Rattle.ltx_core.specs.Built.{built}
-use Rattle.ltx_core.specs.Views.{OpenView, CoreView, declaration}
-use Rattle.ltx_core.specs.Slots.{opened}
+use Rattle.ltx_open.specs.Views.{OpenView, declaration}
+use Rattle.ltx_core.specs.Views.{CoreView}
+use Rattle.ltx_open.specs.Slots.{opened}
 use Rattle.ltx_core.specs.Decided.{IsDecided, reply_at, HasCommittedAt}
-use Rattle.ltx_core.specs.Stands.{areas_of, StandsAt, StandsFor}
-use Rattle.ltx_core.specs.Steps.{IsStep, Steps}
+use Rattle.ltx_core.specs.Stands.{areas_of, StandsAt}
+use Rattle.ltx_core.specs.Logged.{IsLogged}
+use Rattle.ltx_core.specs.Steps.{IsStep, Steps, Logs}
 use Rattle.ltx_core.proofs.HomeAnswers.{commits_at}
 use Rattle.ltx_core.proofs.LiveFound.{IsLiveAt, live_at}
+use Rattle.ltx_core.proofs.LogSteps.{logged_after, logged_event}
 use Rattle.ltx_core.proofs.StandsStill.{staged_is, leads}
 use Rattle.ltx_core.proofs.CommittedBefore.{move_at, placed_stands}
 use Rattle.ltx_core.proofs.DecidedReplies.{decided_reply}
@@ -53,9 +58,9 @@ module _ (answered : (s : State) (session : ℕ) → built s (Good (commits_at s
         (decided base history sound legal stands x.open_tx (declaration e) x.snapshot x.found x.kind)) refl stands
 
     -- it is refused, and ends
-    module _ (new : CoreView) (ends : (base : Base) (history : List Entry) → IsSound base → IsLegalWith built base history → StandsFor old base history
+    module _ (new : CoreView) (ends : (base : Base) (history : List Entry) → IsSound base → IsLegalWith built base history → StandsAt old (state base history)
         → StandsAt new (to_active (state base history) (active_of (state base history) session) (λ u. ended (state base history) u session))) where
-      refused_step : (p : ℕ) (refusal : Refusal) → IsDecided old session (RefuseAt p refusal) → (base : Base) (history : List Entry) → IsSound base → IsLegalWith built base history → StandsFor old base history
+      refused_step : (p : ℕ) (refusal : Refusal) → IsDecided old session (RefuseAt p refusal) → (base : Base) (history : List Entry) → IsSound base → IsLegalWith built base history → StandsAt old (state base history)
           → (changes : reply_changes (state base history) (Good (commits_at session)) (reply_to (state base history) (RefuseAt p refusal)) ≡ to_active (state base history) (active_of (state base history) session) (λ u. ended (state base history) u session))
           → IsStep new base history (Good (commits_at session)) (reply_to (state base history) (RefuseAt p refusal))
       refused_step p refusal decided base history sound legal stands changes =
@@ -102,3 +107,18 @@ module _ (answered : (s : State) (session : ℕ) → built s (Good (commits_at s
           (subst (StandsAt new) (changed s x.open_tx (declaration e) x.snapshot x.found x.kind place)
           (placed_stands old session a e mark base s sound structure stands x place
           (decided_place old session a e mark base s sound structure stands x (record { tx = transaction_of x.open_tx; declared = declaration e; snapshot = x.snapshot }) refl place d) new done parts.0 parts.1))
+
+      -- its event is kept for the log
+      event_is : (epoch : ℕ) (p : Target) (t : Transaction) → event_of epoch (move_at p t) ≡ Some (BatchEvent t.number epoch (target_of p) (writes_in t))
+      event_is epoch targets.Home t = refl
+      event_is epoch (targets.Before p) t = refl
+
+      pub placed_logs : (reply : Reply) → reply ≡ reply_at old.counters.epoch place → Logs old (commits_at session) reply new
+      placed_logs reply says base history sound legal stands =
+          let s : State = state base history in
+          let x : IsLiveAt old session a e mark s = live_at old session a e mark s here stage stands.at in
+          let t : Transaction = transaction_of x.open_tx in
+          let event : BatchEvent a.number old.counters.epoch (target_of place) a.own.writes ≡ BatchEvent t.number s.epoch (target_of place) (writes_in t) = λ i. BatchEvent (x.number i) (stands.at.counters i).epoch (target_of place) (x.own i) in
+          logged_after new.log base history (Good (commits_at session)) (reply_to s (CommitAt place)) reply (says ∙ ap (λ c. reply_at c.epoch place) stands.at.counters ∙ reply_is s place)
+          (subst (IsLogged new.log) (changed s x.open_tx (declaration e) x.snapshot x.found x.kind place)
+          (logged_event old.log new.log s session (move_at place t) (BatchEvent a.number old.counters.epoch (target_of place) a.own.writes) (BatchEvent t.number s.epoch (target_of place) (writes_in t)) done.log event (event_is s.epoch place t) stands.logged))

@@ -31,24 +31,28 @@ use Rattle.ltx_laws.proofs.Structures.{structure_of}
 use Rattle.ltx_core.specs.Built.{built}
 use Rattle.ltx_core.specs.Since.{has_batch_since}
 use Rattle.ltx_forward.specs.declared.decide.Live.{Live}
-use Rattle.ltx_core.specs.declared.stage.Declared.{Declared}
-use Rattle.ltx_core.specs.declared.stage.Stage.{Stage}
-use Rattle.ltx_core.specs.declared.stage.Stage.TheVariants as stages
+use Rattle.ltx_open.specs.declared.stage.Declared.{Declared}
+use Rattle.ltx_open.specs.declared.stage.Stage.{Stage}
+use Rattle.ltx_open.specs.declared.stage.Stage.TheVariants as stages
 use Rattle.ltx_core.specs.Ends.{left_batches, left_list, left_areas, left_records, IsKnownAs}
-use Rattle.ltx_core.specs.Views.{OpenView, CoreView, declaration, pending, IsWithin}
-use Rattle.ltx_core.specs.Slots.{opened, HasAt}
+use Rattle.ltx_open.specs.Views.{OpenView, declaration}
+use Rattle.ltx_core.specs.Views.{CoreView, pending, IsWithin}
+use Rattle.ltx_open.specs.Slots.{opened, HasAt}
 use Rattle.ltx_core.specs.Recorded.{is_any_live, cleared_unless, areas_without}
 use Rattle.ltx_store.proofs.Changes.{same_itself}
-use Rattle.ltx_core.specs.Same.{AreSameOpens, IsSame}
-use Rattle.ltx_core.specs.Stands.{Ground, ground, IsSlotOf, HasStore, HasOpens, StandsAt, StandsFor, IsStanding, batches_of, area_of}
+use Rattle.ltx_open.specs.Same.{AreSameOpens}
+use Rattle.ltx_core.specs.Same.{IsSame}
+use Rattle.ltx_core.specs.Stands.{Ground, ground, IsSlotOf, HasStore, HasOpens, StandsAt, IsStanding, batches_of, area_of}
 use Rattle.ltx_core.specs.Steps.{Steps}
 use Rattle.ltx_core.proofs.LiveAreas.{areas_short, areas_batch}
+use Rattle.ltx_core.proofs.LogWithin.{events_fewer}
 use Rattle.ltx_core.proofs.RecordsKept.{no_holders, records_short_left, records_pending_left, records_left, records_left_alone}
 use Rattle.ltx_core.proofs.Batches.{without_short, without_batch, slots_without, entered_number, others_numbers}
 use Rattle.ltx_core.proofs.Grounds.{KeepsSlot, open_later}
 use Rattle.ltx_core.proofs.OpensKept.{as_short, as_pending, as_live_open, opens_on, opens_none, FoundOpen, opens_some, opens_ended}
 use Rattle.ltx_core.proofs.SlotsLater.{or_false, slot_later, since_later}
-use Rattle.ltx_core.proofs.StandsStill.{staged_is, leads, stays, same_opens}
+use Rattle.ltx_open.proofs.SameOpens.{same_opens}
+use Rattle.ltx_core.proofs.StandsStill.{staged_is, leads, stays}
 
 -- the open transaction of a session of a core at a state
 module _ (old : CoreView) (session : ℕ) (s : State) (stands : StandsAt old s) where
@@ -71,13 +75,14 @@ left_core c room stage n opens = record {
   opens = opens;
   records = left_records stage n c.preserve c.records;
   areas = left_areas stage n c.areas;
+  log = c.log;
 }
 
 -- no member has another number
 not_member : (n : ℕ) (hs : List Holder) (ms : List Member) → is_member ms n ≡ false → AllByRecursion (IsSlotOf hs) ms → AllByRecursion (IsSlotOf (removed n hs)) ms
 not_member n hs ms none all = subst (AllByRecursion (IsSlotOf (removed n hs))) (slot_without n ms none) (slots_without n hs ms all)
 
-module _ (old : CoreView) (session : ℕ) (base : Base) (history : List Entry) (sound : IsSound base) (legal : IsLegalWith built base history) (stands : StandsFor old base history) where
+module _ (old : CoreView) (session : ℕ) (base : Base) (history : List Entry) (sound : IsSound base) (legal : IsLegalWith built base history) (stands : StandsAt old (state base history)) where
   abbrev s : State
   s = state base history
 
@@ -256,10 +261,10 @@ same_taken opens new session none at n = by_test (n == session) refl where
 
 -- a core with these open transactions
 abbrev pub with_opens : CoreView → List (Option OpenView) → CoreView
-with_opens c opens = record { counters = c.counters; list = c.list; room = c.room; commits = c.commits; batch = c.batch; store = c.store; preserve = c.preserve; opens = opens; records = c.records; areas = c.areas }
+with_opens c opens = record { counters = c.counters; list = c.list; room = c.room; commits = c.commits; batch = c.batch; store = c.store; preserve = c.preserve; opens = opens; records = c.records; areas = c.areas; log = c.log }
 
 pub same_but_opens : (v : CoreView) (opens : List (Option OpenView)) → AreSameOpens v.opens opens → IsSame v (with_opens v opens)
-same_but_opens v opens same = record { counters = refl; list = refl; commits = refl; batch = refl; store = same_itself v.store; preserve = refl; opens = same; records = refl; areas = refl }
+same_but_opens v opens same = record { counters = refl; list = refl; commits = refl; batch = refl; store = same_itself v.store; preserve = refl; opens = same; records = refl; areas = refl; log = record { durable = refl; closed = refl; present = refl } }
 
 pub aborted_none : (old : CoreView) (session : ℕ) (opens : List (Option OpenView)) → opened old.opens session ≡ None → HasAt old.opens session None opens → Steps old (aborting session) replies.NoTx (with_opens old opens)
 aborted_none old session opens none at base history sound legal stands =
@@ -269,7 +274,7 @@ aborted_none old session opens none at base history sound legal stands =
 
 -- a core with what is left
 abbrev pub left_with : CoreView → ℕ → List ℕ → List Holder → List (Option OpenView) → List Live → Records → CoreView
-left_with c room list preserve opens areas records = record { counters = c.counters; list = list; room = room; commits = c.commits; batch = c.batch; store = c.store; preserve = preserve; opens = opens; records = records; areas = areas }
+left_with c room list preserve opens areas records = record { counters = c.counters; list = list; room = room; commits = c.commits; batch = c.batch; store = c.store; preserve = preserve; opens = opens; records = records; areas = areas; log = c.log }
 
 -- by the fields of a core
 module _ (v w : CoreView) (same : v ≡ w) (session : ℕ) where
@@ -312,7 +317,7 @@ left_within v stage n list room preserve opens areas records within listed held 
     let short : length list ≤ length v.list = subst (λ l. length l ≤ length v.list) (sym listed) (by_stage_list stage) in
     let before : pending v.preserve ≤ v.room = within.room in
     let fits : length v.list + v.room < 18446744073709551616 = within.listed in
-    record { marks = within.marks; room = omega (arith, kept); listed = omega (arith, kept); epoch_bound = within.epoch_bound; last_bound = within.last_bound } where
+    record { marks = within.marks; room = omega (arith, kept); listed = omega (arith, kept); epoch_bound = within.epoch_bound; epoch_positive = within.epoch_positive; last_bound = within.last_bound; log = events_fewer v.counters.epoch (pending v.preserve) (pending preserve) v.log.events within.log fewer } where
       by_stage : (g : Stage) → pending (left_batches g n v.preserve) ≤ pending v.preserve
       by_stage stages.Short = omega arith
       by_stage (stages.Pending d) = pending_removed n v.preserve

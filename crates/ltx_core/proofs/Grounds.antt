@@ -11,9 +11,9 @@ use Rattle.ltx_model.specs.States.{Declaration, Kind, IsShort, IsPending, IsLive
 use Rattle.std.specs.List.{AllByRecursion}
 use Rattle.ltx_chain.specs.Versions.{visible}
 use Rattle.ltx_store.specs.Kept.{Kept, versions_at, rows_at}
-use Rattle.ltx_core.specs.declared.stage.Stage.{Stage}
-use Rattle.ltx_core.specs.declared.stage.Stage.TheVariants as stages
-use Rattle.ltx_core.specs.Views.{OpenView}
+use Rattle.ltx_open.specs.declared.stage.Stage.{Stage}
+use Rattle.ltx_open.specs.declared.stage.Stage.TheVariants as stages
+use Rattle.ltx_open.specs.Views.{OpenView}
 use Rattle.ltx_core.specs.Stands.{Ground, everybody, write_seen, IsSlotAt, IsOfKind, IsOpen}
 use Rattle.ltx_core.proofs.MarkedNotes.{marks_stay}
 

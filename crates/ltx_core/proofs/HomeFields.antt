@@ -1,5 +1,5 @@
 -- The commit of a live batch, by the fields of the core.
-use Rattle.std.proofs.Common.{◌≡◌, ℕ, ◌<◌, ◌≤◌, ◌+◌, true, false, List, length, Option, Some, option_map, refl, sym, ap, ◌∙◌, subst, nat_lt, arith}
+use Rattle.std.proofs.Common.{◌≡◌, ℕ, ◌<◌, ◌≤◌, ◌+◌, true, false, List, length, Option, Some, option_map, refl, sym, ap, ◌∙◌, subst, le_refl, nat_lt, arith}
 use Rattle.std.specs.List.{list_any}
 use Rattle.ltx_model.specs.declared.replies.Reply.{Reply}
 use Rattle.ltx_model.specs.declared.replies.Reply.TheVariants as replies
@@ -15,27 +15,31 @@ use Rattle.ltx_laws.proofs.Structures.{structure_of}
 use Rattle.ltx_lemmas.proofs.Lists.{some_same}
 use Rattle.ltx_store.specs.Kept.{Kept, HasSameVersions, AreUpTo}
 use Rattle.ltx_preserve.specs.Kept.{is_live_below}
-use Rattle.ltx_core.specs.declared.stage.Declared.{Declared}
-use Rattle.ltx_core.specs.declared.stage.Stage.TheVariants as stages
+use Rattle.ltx_open.specs.declared.stage.Declared.{Declared}
+use Rattle.ltx_open.specs.declared.stage.Stage.TheVariants as stages
 use Rattle.ltx_core.specs.Built.{built}
-use Rattle.ltx_core.specs.Views.{OpenView, CoreView, IsWithin, pending}
-use Rattle.ltx_core.specs.Slots.{opened}
+use Rattle.ltx_open.specs.Views.{OpenView, is_batch}
+use Rattle.ltx_core.specs.Views.{CoreView, AreEventsWithin, IsWithin, pending}
+use Rattle.ltx_open.specs.Slots.{opened}
 use Rattle.ltx_core.specs.Commits.{HasCommittedHome}
 use Rattle.ltx_core.specs.Ends.{IsKnownAs}
 use Rattle.ltx_core.specs.Installed.{HasInstalled}
-use Rattle.ltx_core.specs.Recorded.{is_batch}
 use Rattle.ltx_core.specs.Stands.{IsStanding}
-use Rattle.ltx_core.specs.Steps.{Steps, IsCore}
+use Rattle.ltx_core.specs.Steps.{IsAnswered, IsCore}
 use Rattle.ltx_core.proofs.HomeAnswers.{commits_at}
 use Rattle.ltx_core.proofs.LiveFound.{IsLiveAt, live_at, stage_some, commits_below}
-use Rattle.ltx_core.proofs.CommittedHome.{installed_in_room, commit_home}
+use Rattle.ltx_core.proofs.CommittedHome.{installed_in_room, commit_home, home_logs}
 use Rattle.ltx_core.proofs.CoreSteps.{core_step, core_same}
-use Rattle.ltx_core.proofs.StandsStill.{same_at_itself}
+use Rattle.ltx_core.proofs.LogSteps.{log_kept}
+use Rattle.ltx_core.proofs.LogWithin.{events_more, pending_few}
+use Rattle.ltx_open.proofs.SameOpens.{same_at_itself}
 use Rattle.ltx_core.proofs.Ended.{pending_removed, known_as}
 
 -- the numbers are within their bounds after it
-pub home_within : (fields new : CoreView) (session : ℕ) (a : OpenView) → HasCommittedHome fields session a new → new.room ≡ fields.room → AreUpTo new.commits new.store → IsWithin fields → IsWithin new
-home_within fields new session a done room marks within =
+pub home_within : (fields new : CoreView) (session : ℕ) (a : OpenView) → HasCommittedHome fields session a new → new.room ≡ fields.room → AreUpTo new.commits new.store → length fields.preserve ≤ new.log.events.room → new.log.events.last ≡ fields.counters.epoch
+    → IsWithin fields → IsWithin new
+home_within fields new session a done room marks spare last within =
+    let few : pending fields.preserve ≤ length fields.preserve = pending_few fields.preserve in
     let preserved : pending new.preserve ≡ pending (removed a.number fields.preserve) = ap pending done.preserve in
     let less : pending (removed a.number fields.preserve) ≤ pending fields.preserve = pending_removed a.number fields.preserve in
     let before : pending fields.preserve ≤ fields.room = within.room in
@@ -46,17 +50,20 @@ home_within fields new session a done room marks within =
       room = omega arith;
       listed = omega arith;
       epoch_bound = subst (λ c. c.epoch ≤ last_epoch) (sym done.counters) within.epoch_bound;
+      epoch_positive = subst (λ c. 0 < c.epoch) (sym done.counters) within.epoch_positive;
       last_bound = subst (λ c. c.last ≤ last_number) (sym done.counters) within.last_bound;
+      log = subst (λ c. AreEventsWithin c.epoch (pending new.preserve) new.log.events) (sym done.counters)
+          (events_more fields.counters.epoch (pending fields.preserve) (pending new.preserve) fields.log.events new.log.events _ within.log done.log.closed done.log.present (le_refl fields.counters.epoch) last (let h : pending new.preserve ≤ new.log.events.room = omega arith in h));
     }
 
 -- a core whose store has other room
 pub core_roomed : (fields : CoreView) (store : List Kept) (records : Records) → HasSameVersions fields.store store → records ≡ fields.records → IsCore fields
-    → IsCore (record { counters = fields.counters; list = fields.list; room = fields.room; commits = fields.commits; batch = fields.batch; store = store; preserve = fields.preserve; opens = fields.opens; records = records; areas = fields.areas })
+    → IsCore (record { counters = fields.counters; list = fields.list; room = fields.room; commits = fields.commits; batch = fields.batch; store = store; preserve = fields.preserve; opens = fields.opens; records = records; areas = fields.areas; log = fields.log })
 core_roomed fields store records same recorded core =
-    core_same fields (record { counters = fields.counters; list = fields.list; room = fields.room; commits = fields.commits; batch = fields.batch; store = store; preserve = fields.preserve; opens = fields.opens; records = records; areas = fields.areas })
-    (record { counters = refl; list = refl; commits = refl; batch = refl; store = same; preserve = refl; opens = λ n. same_at_itself (opened fields.opens n); records = recorded; areas = refl })
+    core_same fields (record { counters = fields.counters; list = fields.list; room = fields.room; commits = fields.commits; batch = fields.batch; store = store; preserve = fields.preserve; opens = fields.opens; records = records; areas = fields.areas; log = fields.log })
+    (record { counters = refl; list = refl; commits = refl; batch = refl; store = same; preserve = refl; opens = λ n. same_at_itself (opened fields.opens n); records = recorded; areas = refl; log = log_kept fields.log })
     core.standing
-    (record { marks = same.marks fields.commits core.within.marks; room = core.within.room; listed = core.within.listed; epoch_bound = core.within.epoch_bound; last_bound = core.within.last_bound })
+    (record { marks = same.marks fields.commits core.within.marks; room = core.within.room; listed = core.within.listed; epoch_bound = core.within.epoch_bound; epoch_positive = core.within.epoch_positive; last_bound = core.within.last_bound; log = core.within.log })
 
 -- what was taken out of the slot is what stood there, with its writes
 pub taken_writes : (opens : List (Option OpenView)) (session : ℕ) (a b : OpenView) (items : List Write) → Some a ≡ opened opens session → Some b ≡ opened opens session → items ≡ b.own.writes → items ≡ a.own.writes
@@ -89,8 +96,11 @@ module _ (fields now : CoreView) (is : fields ≡ now) (session : ℕ) (e : Decl
     ahead_least least = ap (λ (core : CoreView). list_any (is_live_below a.number) core.preserve) is ∙ least a (ap (λ (core : CoreView). opened core.opens session) (sym is) ∙ sym here)
 
     pub home_steps : (reply : Reply) (new : CoreView) → nat_lt mark fields.batch ≡ false → list_any (is_live_below a.number) fields.preserve ≡ false → reply ≡ replies.Committed fields.counters.epoch
-        → HasCommittedHome fields session a new → Steps now (commits_at session) reply new
-    home_steps reply new unpassed least says done = subst (λ core. Steps core (commits_at session) reply new) is (commit_home fields session a e mark reply new (sym here) stage unpassed least says done)
+        → HasCommittedHome fields session a new → IsAnswered now (commits_at session) reply new
+    home_steps reply new unpassed least says done = subst (λ core. IsAnswered core (commits_at session) reply new) is (record {
+      steps = commit_home fields session a e mark reply new (sym here) stage unpassed least says done;
+      logs = home_logs fields session a e mark reply new (sym here) stage says done;
+    })
 
     module _ (standing : IsStanding fields) where
       abbrev s : State

@@ -27,7 +27,7 @@ use Rattle.ltx_chain.specs.declared.chain.Version.{Version}
 use Rattle.ltx_chain.specs.Versions.{visible}
 use Rattle.ltx_store.specs.Kept.{Kept, versions_at}
 use Rattle.ltx_store.specs.Scans.{look_of_version}
-use Rattle.ltx_core.specs.Operations.{IsSeenLook}
+use Rattle.ltx_open.specs.Operations.{IsSeenLook}
 use Rattle.ltx_core.specs.Stands.{everybody, write_seen}
 
 -- nobody, or several one after another

@@ -1,4 +1,3 @@
-pub mod Results
 pub mod Sessions
 pub mod MarkedNotes
 pub mod LastSeen
@@ -8,11 +7,13 @@ pub mod Batches
 pub mod SlotsLater
 pub mod StandsStill
 pub mod CoreSteps
-pub mod GetsAtMark
-pub mod ScansAtMark
+pub mod LogMoves
+pub mod LogSteps
 pub mod RisingRows
 pub mod Operated
+pub mod LogWithin
 pub mod Ended
+pub mod OwnWrites
 pub mod Installed
 pub mod LaterVersions
 pub mod InstallsUnless
@@ -23,7 +24,6 @@ pub mod DecidedReplies
 pub mod PlacesDecided
 pub mod DecidedSteps
 pub mod PlacedFields
-pub mod Judged
 pub mod Loaded
 pub mod Begun
 pub mod PendingSlots
@@ -39,7 +39,6 @@ pub mod HomeFields
 pub mod Committed
 pub mod CommitKinds
 pub mod CommitFields
-pub mod SlotChanges
 pub mod NewCores
 pub mod LiveAreas
 pub mod LiveWalks
@@ -47,3 +46,4 @@ pub mod RecordsKept
 pub mod Recording
 pub mod Decidable
 pub mod PlacedCommits
+pub mod Flushed

@@ -18,12 +18,13 @@ use Rattle.ltx_laws.specs.Structure.{Structure}
 use Rattle.ltx_laws.proofs.ReadsKept.{steps_ops, apart_members, live_batch, live_slot}
 use Rattle.ltx_laws.proofs.ReadsTables.{writes_declared}
 use Rattle.ltx_preserve.specs.Kept.{is_live_below}
-use Rattle.ltx_core.specs.declared.stage.Declared.{Declared}
-use Rattle.ltx_core.specs.declared.stage.Stage.{Stage}
-use Rattle.ltx_core.specs.declared.stage.Stage.TheVariants as stages
+use Rattle.ltx_open.specs.declared.stage.Declared.{Declared}
+use Rattle.ltx_open.specs.declared.stage.Stage.{Stage}
+use Rattle.ltx_open.specs.declared.stage.Stage.TheVariants as stages
 use Rattle.ltx_core.specs.Since.{has_batch_since, has_elder}
-use Rattle.ltx_core.specs.Views.{OpenView, CoreView, declaration}
-use Rattle.ltx_core.specs.Slots.{opened}
+use Rattle.ltx_open.specs.Views.{OpenView, declaration}
+use Rattle.ltx_core.specs.Views.{CoreView}
+use Rattle.ltx_open.specs.Slots.{opened}
 use Rattle.ltx_core.specs.Stands.{ground, everybody, IsSlotAt, StandsAt}
 use Rattle.ltx_core.proofs.OpensKept.{FoundOpen, opens_some, FoundLive, as_live_open}
 use Rattle.ltx_core.proofs.HomeAnswers.{elder_entered}

@@ -14,12 +14,12 @@ use Rattle.ltx_model.specs.States.{Declaration, Kind, IsShort, IsPending, IsLive
 use Rattle.ltx_model.specs.Answers.{is_full}
 use Rattle.ltx_model.specs.Limits.{most_operations}
 use Rattle.ltx_lemmas.proofs.Lists.{contains_here, contains_later, all_map, all_push, all_without, all_find, some_same, none_some, find_none, find_passes}
-use Rattle.ltx_core.specs.declared.stage.Declared.{Declared}
-use Rattle.ltx_core.specs.declared.stage.Stage.{Stage}
-use Rattle.ltx_core.specs.declared.stage.Stage.TheVariants as stages
-use Rattle.ltx_core.specs.Views.{OpenView, declaration}
-use Rattle.ltx_core.specs.Slots.{opened, HasAt}
-use Rattle.ltx_core.specs.Same.{IsSameOpen, IsSameAt, AreSameOpens}
+use Rattle.ltx_open.specs.declared.stage.Declared.{Declared}
+use Rattle.ltx_open.specs.declared.stage.Stage.{Stage}
+use Rattle.ltx_open.specs.declared.stage.Stage.TheVariants as stages
+use Rattle.ltx_open.specs.Views.{OpenView, declaration}
+use Rattle.ltx_open.specs.Slots.{opened, HasAt}
+use Rattle.ltx_open.specs.Same.{IsSameOpen, IsSameAt, AreSameOpens}
 use Rattle.ltx_core.specs.Stands.{Ground, everybody, AreMarked, IsShortOpen, IsPendingOpen, IsLiveOpen, IsOfKind, IsOpen, IsFound, AreApart, HasOpens}
 use Rattle.ltx_core.proofs.Sessions.{pairs_without, apart_changed, none_changed, apart_left, find_left, apart_more, find_more, apart_back}
 

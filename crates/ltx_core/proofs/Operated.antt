@@ -44,15 +44,17 @@ use Rattle.ltx_chain.proofs.Seen.{visible_latest}
 use Rattle.ltx_chain.specs.Versions.{visible}
 use Rattle.ltx_store.specs.Kept.{rows_at, AreUpTo, versions_at}
 use Rattle.ltx_store.proofs.Changes.{latest_at, up_to_items}
-use Rattle.ltx_core.specs.declared.stage.Declared.{Declared}
-use Rattle.ltx_core.specs.declared.stage.Stage.{Stage}
-use Rattle.ltx_core.specs.declared.stage.Stage.TheVariants as stages
+use Rattle.ltx_open.specs.declared.stage.Declared.{Declared}
+use Rattle.ltx_open.specs.declared.stage.Stage.{Stage}
+use Rattle.ltx_open.specs.declared.stage.Stage.TheVariants as stages
 use Rattle.ltx_core.specs.Built.{built}
-use Rattle.ltx_core.specs.Views.{OpenView, CoreView, declaration, IsWithin}
-use Rattle.ltx_core.specs.Slots.{opened, HasAt}
-use Rattle.ltx_core.specs.Operations.{IsSeenLook, HasDone, HasMore}
-use Rattle.ltx_core.specs.Same.{AreSameOpens, IsSame}
-use Rattle.ltx_core.specs.Stands.{Ground, ground, everybody, write_seen, AreMarked, IsShortOpen, IsLiveOpen, IsOfKind, IsOpen, batches_of, StandsAt, StandsFor, IsStanding}
+use Rattle.ltx_open.specs.Views.{OpenView, declaration}
+use Rattle.ltx_core.specs.Views.{CoreView, IsWithin}
+use Rattle.ltx_open.specs.Slots.{opened, HasAt}
+use Rattle.ltx_open.specs.Operations.{IsSeenLook, HasDone, HasMore}
+use Rattle.ltx_open.specs.Same.{AreSameOpens}
+use Rattle.ltx_core.specs.Same.{IsSame}
+use Rattle.ltx_core.specs.Stands.{Ground, ground, everybody, write_seen, AreMarked, IsShortOpen, IsLiveOpen, IsOfKind, IsOpen, batches_of, StandsAt, IsStanding}
 use Rattle.ltx_core.specs.Steps.{IsStep, Steps, IsCore}
 use Rattle.ltx_core.proofs.LiveAreas.{areas_stepped}
 use Rattle.ltx_core.proofs.RecordsKept.{records_answered}
@@ -61,7 +63,7 @@ use Rattle.ltx_core.proofs.Ended.{none_open, some_open, left_core, with_opens, s
 use Rattle.ltx_core.proofs.LastSeen.{seen_is_asked, note_so}
 use Rattle.ltx_core.proofs.MarkedNotes.{marks_push}
 use Rattle.ltx_core.proofs.OpensKept.{as_short, as_pending, as_live_open, FoundLive, FoundOpen, opens_changed, full_is}
-use Rattle.ltx_core.proofs.Results.{if_both_ok, by_result}
+use Rattle.ltx_open.proofs.Results.{if_both_ok, by_result}
 use Rattle.ltx_core.proofs.RisingRows.{latest_rising}
 use Rattle.ltx_core.proofs.StandsStill.{staged_is, leads, stays, same_core}
 
@@ -131,7 +133,7 @@ module _ (tells : Step → Cell → Option Look → Type 0) (b : Step) (note : N
   notes_push steps notes are is = notes_more 1 [] steps notes are is
 
 -- An operation of a session at a core that stands for a history.
-module _ (old : CoreView) (session : ℕ) (op : Op) (base : Base) (history : List Entry) (sound : IsSound base) (legal : IsLegalWith built base history) (stands : StandsFor old base history) where
+module _ (old : CoreView) (session : ℕ) (op : Op) (base : Base) (history : List Entry) (sound : IsSound base) (legal : IsLegalWith built base history) (stands : StandsAt old (state base history)) where
   abbrev s : State
   s = state base history
 
@@ -387,7 +389,7 @@ module _ (v w : CoreView) (same : v ≡ w) (session : ℕ) (op : Op) where
 
     -- the core stays one
     opens_within : IsWithin v → IsWithin (with_opens v opens)
-    opens_within within = record { marks = within.marks; room = within.room; listed = within.listed; epoch_bound = within.epoch_bound; last_bound = within.last_bound }
+    opens_within within = record { marks = within.marks; room = within.room; listed = within.listed; epoch_bound = within.epoch_bound; epoch_positive = within.epoch_positive; last_bound = within.last_bound; log = within.log }
 
     pub step_core : IsStanding v → IsWithin v → (reply : Reply) → Steps w (asks session op) reply (with_opens v opens) → IsCore (with_opens v opens)
     step_core standing within reply steps = core_step_from v w same (asks session op) reply (with_opens v opens) steps standing (opens_within within)

@@ -2,10 +2,12 @@
 use Rattle.std.proofs.Common.{◌≡◌, ℕ, suc, ◌+◌, ◌<◌, ◌≤◌, Bool, true, false, not, cond, ◌||◌, ◌==◌, List, [], ◌∷◌, ◌++◌, map, filter, length, slice_get, Some, None, refl, sym, ap, ◌∙◌, subst, append_assoc, append-nil, arith}
 use Rattle.std.specs.List.{AllByRecursion}
 use Rattle.std.proofs.lemmas.List.{map-append, length-append}
+use Rattle.ltx_model.specs.Frames.{SlotEvent}
 use Rattle.ltx_model.specs.Holders.{Holder}
 use Rattle.ltx_model.specs.Listings.{is_member}
 use Rattle.ltx_model.specs.Explained.{IsDistinct}
 use Rattle.ltx_lemmas.proofs.Lists.{some_same, none_some, all_back, contains_here, contains_back, any_append, any_not, filter_append}
+use Rattle.ltx_events.specs.Kept.{Unsealed}
 use Rattle.ltx_preserve.specs.Kept.{pending_number}
 use Rattle.ltx_core.specs.Views.{pending}
 use Rattle.ltx_core.specs.Epochs.{pending_numbers, AreNew}
@@ -156,3 +158,36 @@ slots_all old had now room_now holders place a past =
           let place_is : length a.done ≡ place = a.place_is in
           let wrong : ⊥ = omega arith in
           absurd wrong
+
+-- The events of the batches up to a place are kept, where they are pending.
+pub record IsKeeping (old now : Unsealed) (holders : List Holder) (place : ℕ) : Type 0 where
+  pub numbers : List ℕ
+  pub slots : IsAppending [] old.room numbers now.room holders place
+  pub closed : now.closed ≡ old.closed
+  pub present : now.present ≡ old.present ++ map SlotEvent numbers
+  pub last : now.last ≡ old.last
+
+pub keep_begin : (old : Unsealed) (holders : List Holder) → IsKeeping old old holders 0
+keep_begin old holders = record { numbers = []; slots = slots_begin [] old.room holders; closed = refl; present = sym (append-nil old.present); last = refl }
+
+module _ (old now : Unsealed) (holders : List Holder) (place : ℕ) (k : IsKeeping old now holders place) where
+  module _ (tx : ℕ) (is : pending_number (slice_get holders place) ≡ Some tx) where
+    pub keep_room : pending holders ≤ old.room → 0 < now.room
+    keep_room room = slot_room [] old.room k.numbers now.room holders place tx k.slots is room
+
+    pub keep_more : (new : Unsealed) → new.closed ≡ now.closed → new.present ≡ now.present ++ SlotEvent tx ∷ [] → new.room + 1 ≡ now.room → new.last ≡ now.last → IsKeeping old new holders (place + 1)
+    keep_more new closed present room last = record {
+      numbers = k.numbers ++ tx ∷ [];
+      slots = slot_appended [] old.room k.numbers now.room holders place tx k.slots is (k.numbers ++ tx ∷ []) new.room refl room;
+      closed = closed ∙ k.closed;
+      present = present ∙ ap (λ es. es ++ SlotEvent tx ∷ []) k.present ∙ append_assoc old.present (map SlotEvent k.numbers) (SlotEvent tx ∷ []) ∙ ap (λ es. old.present ++ es) (sym (map-append SlotEvent k.numbers (tx ∷ [])));
+      last = last ∙ k.last;
+    }
+
+  pub keep_none : place < length holders → pending_number (slice_get holders place) ≡ None → IsKeeping old now holders (place + 1)
+  keep_none within is = record { numbers = k.numbers; slots = slot_none [] old.room k.numbers now.room holders place k.slots within is; closed = k.closed; present = k.present; last = k.last }
+
+  pub keep_all : length holders ≤ place → (now.present ≡ old.present ++ map SlotEvent (pending_numbers holders)) × (now.room + pending holders ≡ old.room)
+  keep_all past =
+      let all = slots_all [] old.room k.numbers now.room holders place k.slots past in
+      (k.present ∙ ap (λ ns. old.present ++ map SlotEvent ns) all.0, all.1)

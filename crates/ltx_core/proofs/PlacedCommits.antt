@@ -1,5 +1,5 @@
 -- The commit of a live batch that is decided, by the fields of a core.
-use Rattle.std.proofs.Common.{◌≡◌, ◌≢◌, ℕ, true, false, List, [], map, length, Option, Some, None, option_map, refl, sym, ap, ◌∙◌, subst, nat_lt}
+use Rattle.std.proofs.Common.{◌≡◌, ◌≢◌, ℕ, true, false, List, [], map, length, Option, Some, None, option_map, refl, sym, ap, ◌∙◌, subst, nat_lt, inr}
 use Rattle.std.specs.List.{list_any}
 use Rattle.ltx_model.specs.declared.commands.Line.TheVariants.{Good}
 use Rattle.ltx_model.specs.declared.replies.Entry.{Entry}
@@ -28,26 +28,28 @@ use Rattle.ltx_forward.specs.declared.decide.Decision.{Decision}
 use Rattle.ltx_forward.specs.Asked.{told, decision_of}
 use Rattle.ltx_preserve.specs.Kept.{is_live_below}
 use Rattle.ltx_store.specs.Kept.{Kept, versions_at, HasSameVersions}
-use Rattle.ltx_core.specs.declared.stage.Declared.{Declared}
-use Rattle.ltx_core.specs.declared.stage.Stage.TheVariants as stages
+use Rattle.ltx_open.specs.declared.stage.Declared.{Declared}
+use Rattle.ltx_open.specs.declared.stage.Stage.TheVariants as stages
 use Rattle.ltx_core.specs.Asking.{IsAskedWith, IsAskableWith}
 use Rattle.ltx_core.specs.Built.{built}
 use Rattle.ltx_core.specs.Decided.{IsDecided, HasLive, IsAhead, IsRefused, reply_at, list_at, HasCommittedAt}
 use Rattle.ltx_core.specs.Ends.{left_batches, left_list, left_areas, left_records}
 use Rattle.ltx_core.specs.Installed.{AreByMembers}
 use Rattle.ltx_core.specs.Recorded.{areas_of_live}
-use Rattle.ltx_core.specs.Slots.{opened, HasAt}
-use Rattle.ltx_core.specs.Stands.{areas_of, batches_of, StandsAt, StandsFor, IsStanding}
-use Rattle.ltx_core.specs.Steps.{Steps, IsCore}
-use Rattle.ltx_core.specs.Views.{OpenView, CoreView, IsWithin, declaration}
+use Rattle.ltx_open.specs.Slots.{opened, HasAt}
+use Rattle.ltx_core.specs.Stands.{areas_of, batches_of, StandsAt, IsStanding}
+use Rattle.ltx_core.specs.Steps.{Steps, IsAnswered, IsCore}
+use Rattle.ltx_open.specs.Views.{OpenView, declaration}
+use Rattle.ltx_core.specs.Views.{CoreView, IsWithin}
 use Rattle.ltx_core.proofs.CommittedBefore.{move_at}
 use Rattle.ltx_core.proofs.CoreSteps.{core_step}
 use Rattle.ltx_core.proofs.Decidable.{asking_decidable}
-use Rattle.ltx_core.proofs.DecidedSteps.{commit_waiting, commit_late, commit_contradicts, commit_placed}
+use Rattle.ltx_core.proofs.DecidedSteps.{commit_waiting, commit_late, commit_contradicts, commit_placed, placed_logs}
 use Rattle.ltx_core.proofs.Ended.{left_core, left_with, ended_stands}
 use Rattle.ltx_core.proofs.HomeAnswers.{commits_at}
 use Rattle.ltx_core.proofs.LiveAreas.{lives_are, areas_length}
 use Rattle.ltx_core.proofs.LiveFound.{IsLiveAt, live_at, stage_some}
+use Rattle.ltx_core.proofs.LogSteps.{log_kept, IsQuiet, calm_answered, calm_from}
 use Rattle.ltx_core.proofs.PlacedFields.{batch_there, writers_there, target_there}
 use Rattle.ltx_core.proofs.Recording.{records_home, records_before, areas_left}
 
@@ -87,10 +89,10 @@ live_open core session live = by_slot (opened core.opens session) refl live.live
   by_slot (Some a) is some = record { open_tx = a; declared = live.declared; mark = live.mark; here = is; stage = some_same some }
 
 -- it waits
-pub waiting_steps : (core : CoreView) (session : ℕ) → HasLive core session → (k : ℕ) → IsDecided core session (WaitFor k) → Steps core (commits_at session) (replies.Waiting k) core
+pub waiting_steps : (core : CoreView) (session : ℕ) → HasLive core session → (k : ℕ) → IsDecided core session (WaitFor k) → IsAnswered core (commits_at session) (replies.Waiting k) core
 waiting_steps core session live k decided =
     let o = live_open core session live in
-    commit_waiting commits_answered core session o.open_tx o.declared o.mark o.here o.stage k decided
+    calm_answered core (commits_at session) (replies.Waiting k) core (commit_waiting commits_answered core session o.open_tx o.declared o.mark o.here o.stage k decided) (log_kept core.log) (inr tt)
 
 -- the same declaration and snapshot
 abbrev declared_in : Kind → Declaration → Declaration
@@ -106,7 +108,7 @@ snapshot_in (IsLive e snapshot) = snapshot
 -- what is asked is what the core keeps
 module _ (core : CoreView) (session : ℕ) (a : OpenView) (e : Declared) (mark : ℕ) (here : opened core.opens session ≡ Some a) (stage : a.stage ≡ stages.Live e mark) (lives : List Live) (are : lives ≡ areas_of_live core.preserve core.areas)
     (agenda : Listed) (listed : agenda.list ≡ core.list) where
-  module _ (base : Base) (history : List Entry) (sound : IsSound base) (legal : IsLegalWith built base history) (stands : StandsFor core base history) where
+  module _ (base : Base) (history : List Entry) (sound : IsSound base) (legal : IsLegalWith built base history) (stands : StandsAt core (state base history)) where
     abbrev s : State
     s = state base history
 
@@ -145,6 +147,11 @@ module _ (core : CoreView) (session : ℕ) (a : OpenView) (e : Declared) (mark :
   decided_here : (decision : decisions.Decision) → ((s : State) (i : LiveBatch) → IsAskedWith s i a.number a.stage a.notes a.own.writes lives core.records agenda → IsDecision s i decision) → IsDecided core session decision
   decided_here decision answers base history sound legal stands = decided_now base history sound legal stands decision (answers (state base history) _ (asked_now base history sound legal stands))
 
+-- a refusal leaves no event
+quiet_refusal : (p : ℕ) (r : Refusal) → IsQuiet (refused_at p r)
+quiet_refusal p (ByLate w) = tt
+quiet_refusal p (ByContradicts w) = tt
+
 module _ (fields now : CoreView) (is_now : fields ≡ now) (session : ℕ) (live : HasLive now session) (a : OpenView) (here : Some a ≡ opened fields.opens session) where
   pub placed_stage : a.stage ≡ stages.Live live.declared live.mark
   placed_stage = stage_some (opened fields.opens session) a (stages.Live live.declared live.mark) (ap (λ (core : CoreView). option_map (λ (x : OpenView). x.stage) (opened core.opens session)) is_now ∙ live.live) (sym here)
@@ -159,7 +166,7 @@ module _ (fields now : CoreView) (is_now : fields ≡ now) (session : ℕ) (live
 
   -- it is refused
   module _ (reply : Reply) (refused : IsRefused now session reply) (opens : List (Option OpenView)) (at : HasAt fields.opens session None opens) where
-    ends : (room : ℕ) (base : Base) (history : List Entry) → IsSound base → IsLegalWith built base history → StandsFor fields base history → StandsAt (left_core fields room a.stage a.number opens) (to_active (state base history) (active_of (state base history) session) (λ u. ended (state base history) u session))
+    ends : (room : ℕ) (base : Base) (history : List Entry) → IsSound base → IsLegalWith built base history → StandsAt fields (state base history) → StandsAt (left_core fields room a.stage a.number opens) (to_active (state base history) (active_of (state base history) session) (λ u. ended (state base history) u session))
     ends room base history sound legal stands = ended_stands fields session base history sound legal stands room a opens (sym here) at
 
     left_steps : (room : ℕ) → Steps fields (commits_at session) reply (left_core fields room a.stage a.number opens)
@@ -172,11 +179,17 @@ module _ (fields now : CoreView) (is_now : fields ≡ now) (session : ℕ) (live
           subst (λ x. Steps fields (commits_at session) x (left_core fields room a.stage a.number opens)) (sym says)
           (commit_contradicts commits_answered fields session a live.declared live.mark (sym here) placed_stage (left_core fields room a.stage a.number opens) (ends room) refused.place w decided)
 
-    pub refused_steps : (room : ℕ) (list : List ℕ) (preserve : List Holder) (areas : List Live) (records : Records) → list ≡ left_list a.stage a.number fields.list → preserve ≡ left_batches a.stage a.number fields.preserve
+    steps_refused : (room : ℕ) (list : List ℕ) (preserve : List Holder) (areas : List Live) (records : Records) → list ≡ left_list a.stage a.number fields.list → preserve ≡ left_batches a.stage a.number fields.preserve
         → areas ≡ left_areas a.stage a.number fields.areas → records ≡ left_records a.stage a.number fields.preserve fields.records → Steps now (commits_at session) reply (left_with fields room list preserve opens areas records)
-    refused_steps room list preserve areas records listed held area recorded = subst (Steps now (commits_at session) reply) made (subst (λ core. Steps core (commits_at session) reply (left_core fields room a.stage a.number opens)) is_now (left_steps room)) where
+    steps_refused room list preserve areas records listed held area recorded = subst (Steps now (commits_at session) reply) made (subst (λ core. Steps core (commits_at session) reply (left_core fields room a.stage a.number opens)) is_now (left_steps room)) where
       made : left_core fields room a.stage a.number opens ≡ left_with fields room list preserve opens areas records
       made i = left_with fields room (sym listed i) (sym held i) opens (sym area i) (sym recorded i)
+
+    pub refused_steps : (room : ℕ) (list : List ℕ) (preserve : List Holder) (areas : List Live) (records : Records) → list ≡ left_list a.stage a.number fields.list → preserve ≡ left_batches a.stage a.number fields.preserve
+        → areas ≡ left_areas a.stage a.number fields.areas → records ≡ left_records a.stage a.number fields.preserve fields.records → IsAnswered now (commits_at session) reply (left_with fields room list preserve opens areas records)
+    refused_steps room list preserve areas records listed held area recorded =
+        calm_from fields now is_now (commits_at session) reply (left_with fields room list preserve opens areas records) (steps_refused room list preserve areas records listed held area recorded) (log_kept fields.log)
+        (inr (subst IsQuiet (sym refused.reply_is) (quiet_refusal refused.place refused.refusal)))
 
   -- it commits at a place
   module _ (place : Target) (decided : IsDecided now session (CommitAt place)) where
@@ -208,8 +221,11 @@ module _ (fields now : CoreView) (is_now : fields ≡ now) (session : ℕ) (live
       steps_there : (reply : Reply) → reply ≡ reply_at fields.counters.epoch place → Steps fields (commits_at session) reply new
       steps_there reply says = commit_placed commits_answered fields session a live.declared live.mark (sym here) placed_stage place new decided_fields done kept reply says
 
-      pub placed_steps : (reply : Reply) → reply ≡ reply_at fields.counters.epoch place → Steps now (commits_at session) reply new
-      placed_steps reply says = subst (λ core. Steps core (commits_at session) reply new) is_now (steps_there reply says)
+      pub placed_steps : (reply : Reply) → reply ≡ reply_at fields.counters.epoch place → IsAnswered now (commits_at session) reply new
+      placed_steps reply says = subst (λ core. IsAnswered core (commits_at session) reply new) is_now (record {
+        steps = steps_there reply says;
+        logs = placed_logs commits_answered fields session a live.declared live.mark (sym here) placed_stage place new decided_fields done kept reply says;
+      })
 
       pub placed_core : IsStanding fields → IsWithin new → IsCore new
       placed_core standing within = core_step fields (commits_at session) (reply_at fields.counters.epoch place) new (steps_there (reply_at fields.counters.epoch place) refl) standing within

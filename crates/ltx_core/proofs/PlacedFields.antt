@@ -1,5 +1,5 @@
 -- The commit of a live batch at a place, by the fields of a core.
-use Rattle.std.proofs.Common.{◌≡◌, ◌≢◌, ℕ, ◌<◌, ◌≤◌, ◌+◌, Bool, true, false, ◌==◌, cond, List, [], ◌∷◌, length, option_map, Some, refl, sym, ap, subst, arith}
+use Rattle.std.proofs.Common.{◌≡◌, ◌≢◌, ℕ, ◌<◌, ◌≤◌, ◌+◌, Bool, true, false, ◌==◌, cond, List, [], ◌∷◌, length, option_map, Some, refl, sym, ap, subst, le_refl, arith}
 use Rattle.ltx_model.specs.declared.writes.Target.{Target}
 use Rattle.ltx_model.specs.declared.writes.Target.TheVariants as targets
 use Rattle.ltx_model.specs.declared.writes.Write.{Write}
@@ -18,17 +18,19 @@ use Rattle.ltx_agenda.proofs.Joined.{length-without_member}
 use Rattle.ltx_chain.specs.declared.chain.Version.{Version}
 use Rattle.ltx_chain.specs.Versions.{latest}
 use Rattle.ltx_store.specs.Kept.{Kept, versions_at, HasSameVersions, AreUpTo}
-use Rattle.ltx_core.specs.declared.stage.Declared.{Declared}
-use Rattle.ltx_core.specs.declared.stage.Stage.TheVariants as stages
+use Rattle.ltx_open.specs.declared.stage.Declared.{Declared}
+use Rattle.ltx_open.specs.declared.stage.Stage.TheVariants as stages
 use Rattle.ltx_core.specs.Built.{built}
-use Rattle.ltx_core.specs.Views.{OpenView, CoreView, IsWithin, pending, declaration}
-use Rattle.ltx_core.specs.Slots.{opened}
+use Rattle.ltx_open.specs.Views.{OpenView, declaration}
+use Rattle.ltx_core.specs.Views.{CoreView, AreEventsWithin, IsWithin, pending}
+use Rattle.ltx_open.specs.Slots.{opened}
 use Rattle.ltx_core.specs.Installed.{last_writer, installed_writes, HasInstalled, HasInstalledUnless, AreByMembers}
 use Rattle.ltx_core.specs.Decided.{IsDecided, list_at, HasCommittedAt}
 use Rattle.ltx_core.specs.Stands.{IsStanding}
 use Rattle.ltx_core.proofs.CommittedHome.{installed_in_room}
 use Rattle.ltx_core.proofs.Ended.{pending_removed}
 use Rattle.ltx_core.proofs.LiveFound.{IsLiveAt, live_at}
+use Rattle.ltx_core.proofs.LogWithin.{events_more, pending_few}
 use Rattle.ltx_core.proofs.PlacesDecided.{decided_place, target_listed, batch_listed, writers_listed}
 
 -- the same writes are installed where there is other room
@@ -63,8 +65,9 @@ listed_most (targets.Before p) n list here =
 
 -- the numbers are within their bounds after it
 pub placed_within : (place : Target) (fields new : CoreView) (session : ℕ) (a : OpenView) → HasCommittedAt place fields session a new → is_member fields.list a.number ≡ true → new.room ≡ fields.room → AreUpTo new.commits new.store
-    → IsWithin fields → IsWithin new
-placed_within place fields new session a done member room marks within =
+    → length fields.preserve ≤ new.log.events.room → new.log.events.last ≡ fields.counters.epoch → IsWithin fields → IsWithin new
+placed_within place fields new session a done member room marks spare last within =
+    let few : pending fields.preserve ≤ length fields.preserve = pending_few fields.preserve in
     let preserved : pending new.preserve ≡ pending (removed a.number fields.preserve) = ap pending done.preserve in
     let less : pending (removed a.number fields.preserve) ≤ pending fields.preserve = pending_removed a.number fields.preserve in
     let before : pending fields.preserve ≤ fields.room = within.room in
@@ -76,7 +79,10 @@ placed_within place fields new session a done member room marks within =
       room = omega arith;
       listed = omega arith;
       epoch_bound = subst (λ c. c.epoch ≤ last_epoch) (sym done.counters) within.epoch_bound;
+      epoch_positive = subst (λ c. 0 < c.epoch) (sym done.counters) within.epoch_positive;
       last_bound = subst (λ c. c.last ≤ last_number) (sym done.counters) within.last_bound;
+      log = subst (λ c. AreEventsWithin c.epoch (pending new.preserve) new.log.events) (sym done.counters)
+          (events_more fields.counters.epoch (pending fields.preserve) (pending new.preserve) fields.log.events new.log.events _ within.log done.log.closed done.log.present (le_refl fields.counters.epoch) last (let h : pending new.preserve ≤ new.log.events.room = omega arith in h));
     }
 
 -- what a core that stands knows of a batch whose commit is decided

@@ -23,8 +23,9 @@ use Rattle.ltx_laws.specs.Structure.{Structure}
 use Rattle.ltx_laws.proofs.ReadsKept.{apart_members, live_slot}
 use Rattle.ltx_chain.specs.declared.chain.Version.{Version}
 use Rattle.ltx_store.specs.Kept.{versions_at}
-use Rattle.ltx_core.specs.declared.stage.Declared.{Declared}
-use Rattle.ltx_core.specs.Views.{OpenView, CoreView, declaration}
+use Rattle.ltx_open.specs.declared.stage.Declared.{Declared}
+use Rattle.ltx_open.specs.Views.{OpenView, declaration}
+use Rattle.ltx_core.specs.Views.{CoreView}
 use Rattle.ltx_core.specs.Installed.{AreByMembers}
 use Rattle.ltx_core.specs.Decided.{list_at}
 use Rattle.ltx_core.specs.Stands.{HasMark, StandsAt}

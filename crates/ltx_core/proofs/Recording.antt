@@ -13,10 +13,11 @@ use Rattle.ltx_lemmas.proofs.Lists.{find_contains}
 use Rattle.ltx_laws.specs.Structure.{Structure}
 use Rattle.ltx_laws.proofs.Structures.{structure_of}
 use Rattle.ltx_reads.specs.Noted.{HasNoted}
-use Rattle.ltx_core.specs.declared.stage.Declared.{Declared}
+use Rattle.ltx_open.specs.declared.stage.Declared.{Declared}
 use Rattle.ltx_core.specs.Built.{built}
-use Rattle.ltx_core.specs.Views.{OpenView, CoreView, declaration}
-use Rattle.ltx_core.specs.Slots.{opened}
+use Rattle.ltx_open.specs.Views.{OpenView, declaration}
+use Rattle.ltx_core.specs.Views.{CoreView}
+use Rattle.ltx_open.specs.Slots.{opened}
 use Rattle.ltx_core.specs.Recorded.{are_several_live, HasRecordedBatch, areas_without}
 use Rattle.ltx_core.specs.Stands.{ground, everybody, area_of, areas_of, StandsAt, IsStanding}
 use Rattle.ltx_core.proofs.LiveAreas.{live_number, areas_batch, lives_none}

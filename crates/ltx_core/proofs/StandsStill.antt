@@ -1,5 +1,5 @@
 -- A core that stands for a history still does so where nothing that it keeps has changed.
-use Rattle.std.proofs.Common.{◌≡◌, ℕ, ◌≤◌, List, [], ◌∷◌, ◌++◌, map, Option, Some, None, refl, sym, ap, ◌∙◌, subst}
+use Rattle.std.proofs.Common.{◌≡◌, ℕ, ◌≤◌, List, [], ◌∷◌, ◌++◌, map, refl, sym, ap, ◌∙◌, subst}
 use Rattle.std.specs.Prelude.{if◌then◌else◌}
 use Rattle.std.specs.List.{AllByRecursion}
 use Rattle.ltx_model.specs.declared.commands.Command.{Command}
@@ -19,11 +19,13 @@ use Rattle.ltx_model.proofs.OneMore.{state-push, after-is}
 use Rattle.ltx_chain.specs.Versions as versions
 use Rattle.ltx_store.specs.Kept.{Kept, versions_at, rows_at, latest_rows}
 use Rattle.ltx_core.specs.Built.{built}
-use Rattle.ltx_core.specs.Views.{OpenView, CoreView}
-use Rattle.ltx_core.specs.Slots.{opened}
-use Rattle.ltx_core.specs.Same.{IsSameOpen, IsSameAt, AreSameOpens, IsSame}
-use Rattle.ltx_core.specs.Stands.{ground, IsSlotOf, HasMark, write_seen, HasStore, HasOpens, StandsAt, StandsFor}
+use Rattle.ltx_core.specs.Views.{CoreView}
+use Rattle.ltx_open.specs.Slots.{opened}
+use Rattle.ltx_open.specs.Same.{AreSameOpens}
+use Rattle.ltx_core.specs.Same.{IsSame}
+use Rattle.ltx_core.specs.Stands.{ground, IsSlotOf, HasMark, write_seen, HasStore, HasOpens, StandsAt}
 use Rattle.ltx_core.specs.Steps.{IsStep, Steps}
+use Rattle.ltx_open.proofs.SameOpens.{same_at_itself, same_at_back}
 use Rattle.ltx_core.proofs.Grounds.{with_store, open_restored}
 use Rattle.ltx_core.proofs.OpensKept.{opens_on, opens_same}
 use Rattle.ltx_store.proofs.Changes.{same_itself}
@@ -34,12 +36,8 @@ unfolding answer
 staged_is s command = refl
 
 -- a core at a state that one entry more leads to
-pub stands_after : (core : CoreView) (base : Base) (history : List Entry) (entry : Entry) (s : State) → after (state base history) entry ≡ s → StandsAt core s → StandsFor core base (history ++ entry ∷ [])
+pub stands_after : (core : CoreView) (base : Base) (history : List Entry) (entry : Entry) (s : State) → after (state base history) entry ≡ s → StandsAt core s → StandsAt core (state base (history ++ entry ∷ []))
 stands_after core base history entry s is at = subst (StandsAt core) (sym (state-push (first_state base) history entry ∙ is)) at
-
--- an entry that changes nothing
-pub quiet : (core : CoreView) (base : Base) (history : List Entry) (entry : Entry) → after (state base history) entry ≡ state base history → StandsFor core base history → StandsFor core base (history ++ entry ∷ [])
-quiet core base history entry same stands = stands_after core base history entry (state base history) same stands
 
 -- a step by what the reply changes
 pub leads : (base : Base) (history : List Entry) (line : Line) (answer reply : Reply) (new : CoreView) → answer ≡ staged built (state base history) line → reply ≡ answer
@@ -61,25 +59,8 @@ store_same old new base now serially commits latest same has = record {
   marks = λ cell. subst (AllByRecursion (HasMark base (map (λ t. t.number) commits) cell)) (sym (same cell)) (has.marks cell);
 }
 
-same_open_back : (a b : OpenView) → IsSameOpen a b → IsSameOpen b a
-same_open_back a b same = record { number = sym same.number; stage = sym same.stage; notes = sym same.notes; marks = sym same.marks; own = sym same.own }
-
-same_at_back : (o u : Option OpenView) → IsSameAt o u → IsSameAt u o
-same_at_back None None same = tt
-same_at_back None (Some u) same = absurd same
-same_at_back (Some o) None same = absurd same
-same_at_back (Some o) (Some u) same = same_open_back o u same
-
--- what is as it was keeps the same
-pub same_at_itself : (o : Option OpenView) → IsSameAt o o
-same_at_itself None = tt
-same_at_itself (Some a) = record { number = refl; stage = refl; notes = refl; marks = refl; own = refl }
-
-pub same_opens : (opens new : List (Option OpenView)) → ((n : ℕ) → opened new n ≡ opened opens n) → AreSameOpens opens new
-same_opens opens new same n = subst (IsSameAt (opened opens n)) (sym (same n)) (same_at_itself (opened opens n))
-
 pub same_core : (old new : CoreView) → new ≡ old → IsSame old new
-same_core old new e = subst (IsSame old) (sym e) (record { counters = refl; list = refl; commits = refl; batch = refl; store = same_itself old.store; preserve = refl; opens = λ n. same_at_itself (opened old.opens n); records = refl; areas = refl })
+same_core old new e = subst (IsSame old) (sym e) (record { counters = refl; list = refl; commits = refl; batch = refl; store = same_itself old.store; preserve = refl; opens = λ n. same_at_itself (opened old.opens n); records = refl; areas = refl; log = record { durable = refl; closed = refl; present = refl } })
 
 -- What two cores have in common where one keeps the same as the other.
 record IsLike (old new : CoreView) : Type 0 where
@@ -154,14 +135,14 @@ stands_like old new s same at = record {
 pub stands_same_at : (old new : CoreView) (s : State) → IsSame old new → StandsAt old s → StandsAt new s
 stands_same_at old new s same at = stands_like old new s (like old new same) at
 
-pub stands_same : (old new : CoreView) (base : Base) (history : List Entry) → IsSame old new → StandsFor old base history → StandsFor new base history
+pub stands_same : (old new : CoreView) (base : Base) (history : List Entry) → IsSame old new → StandsAt old (state base history) → StandsAt new (state base history)
 stands_same old new base history same stands = stands_like old new (state base history) (like old new same) stands
 
-pub stands_same_back : (old new : CoreView) (base : Base) (history : List Entry) → IsSame old new → StandsFor new base history → StandsFor old base history
+pub stands_same_back : (old new : CoreView) (base : Base) (history : List Entry) → IsSame old new → StandsAt new (state base history) → StandsAt old (state base history)
 stands_same_back old new base history same stands = stands_like new old (state base history) (like_back old new same) stands
 
 -- an entry that changes nothing, whatever room there is
-pub stays : (old new : CoreView) (command : Command) (reply : Reply) (base : Base) (history : List Entry) → IsSame old new → StandsFor old base history
+pub stays : (old new : CoreView) (command : Command) (reply : Reply) (base : Base) (history : List Entry) → IsSame old new → StandsAt old (state base history)
     → (answer : Reply) → answer ≡ staged built (state base history) (lines.Good command) → reply ≡ answer → reply_changes (state base history) (lines.Good command) answer ≡ state base history → IsStep new base history (lines.Good command) reply
 stays old new command reply base history same stands answer is replies quiet =
     leads base history (lines.Good command) answer reply new is replies (subst (StandsAt new) (sym quiet) (stands_same_at old new (state base history) same stands))

@@ -8,9 +8,9 @@ use Rattle.ltx_model.specs.States.{State, LiveBatch}
 use Rattle.ltx_agenda.specs.Placed.{Listed}
 use Rattle.ltx_forward.specs.declared.decide.Live.{Live}
 use Rattle.ltx_forward.specs.Asked.{told}
-use Rattle.ltx_core.specs.declared.stage.Declared.{Declared}
-use Rattle.ltx_core.specs.declared.stage.Stage.{Stage}
-use Rattle.ltx_core.specs.declared.stage.Stage.TheVariants as stages
+use Rattle.ltx_open.specs.declared.stage.Declared.{Declared}
+use Rattle.ltx_open.specs.declared.stage.Stage.{Stage}
+use Rattle.ltx_open.specs.declared.stage.Stage.TheVariants as stages
 
 -- The open transaction is a live batch, and with its notes and writes, the live batches, the records and the agenda it is what a
 -- decision about the live batch i of the state asks for.

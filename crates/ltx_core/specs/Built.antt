@@ -8,10 +8,10 @@ use Rattle.ltx_model.specs.declared.commands.Line.{Line}
 use Rattle.ltx_model.specs.declared.commands.Line.TheVariants as lines
 use Rattle.ltx_model.specs.States.{State}
 
--- all that a session asks, and the next epoch
+-- all that a session asks, the next epoch, and a flush
 abbrev pub built_command : State → Command → Bool
 built_command s commands.Epoch = true
-built_command s commands.Flush = false
+built_command s commands.Flush = true
 built_command s commands.Prune = false
 built_command s (commands.Ask session verb) = true
 

@@ -10,24 +10,28 @@ use Rattle.ltx_model.specs.Operations.{Transaction}
 use Rattle.ltx_model.specs.Answers.{refused_at, IsLegalWith}
 use Rattle.ltx_model.specs.Batches.{Refusal}
 use Rattle.ltx_model.specs.Decisions.{Decision, RefuseAt, IsDecision}
+use Rattle.ltx_model.specs.Frames.{BatchEvent}
 use Rattle.ltx_model.specs.Histories.{state}
 use Rattle.ltx_model.specs.Holders.{removed}
 use Rattle.ltx_model.specs.Listings.{is_member, insert_before, without}
 use Rattle.ltx_model.specs.States.{Declaration, IsLive, Active, transaction_of, Base, IsSound, active_of}
 use Rattle.ltx_agenda.specs.Placed.{Listed, HasRoomBefore}
+use Rattle.ltx_frame.specs.Events.{target_of}
 use Rattle.ltx_preserve.specs.Kept.{is_live_below}
-use Rattle.ltx_core.specs.declared.stage.Declared.{Declared}
-use Rattle.ltx_core.specs.declared.stage.Stage.TheVariants as stages
+use Rattle.ltx_open.specs.declared.stage.Declared.{Declared}
+use Rattle.ltx_open.specs.declared.stage.Stage.TheVariants as stages
 use Rattle.ltx_core.specs.Built.{built}
 use Rattle.ltx_core.specs.Installed.{HasInstalledUnless}
+use Rattle.ltx_core.specs.Logged.{HasLogged}
 use Rattle.ltx_core.specs.Recorded.{are_several_live, HasRecordedBatch, areas_without}
-use Rattle.ltx_core.specs.Slots.{opened, HasAt}
-use Rattle.ltx_core.specs.Views.{OpenView, CoreView}
-use Rattle.ltx_core.specs.Stands.{StandsFor}
+use Rattle.ltx_open.specs.Slots.{opened, HasAt}
+use Rattle.ltx_open.specs.Views.{OpenView}
+use Rattle.ltx_core.specs.Views.{CoreView}
+use Rattle.ltx_core.specs.Stands.{StandsAt}
 
 -- Wherever the core stands, this is what is decided of the commit of the session's live batch.
 abbrev pub IsDecided : CoreView → ℕ → Decision → Type 0
-IsDecided core session decision = (base : Base) (history : List Entry) → IsSound base → IsLegalWith built base history → StandsFor core base history
+IsDecided core session decision = (base : Base) (history : List Entry) → IsSound base → IsLegalWith built base history → StandsAt core (state base history)
     → (o : Active) (declared : Declaration) (snapshot : List Transaction) → active_of (state base history) session ≡ Some o → o.kind ≡ IsLive declared snapshot
     → IsDecision (state base history) (record { tx = transaction_of o; declared = declared; snapshot = snapshot }) decision
 
@@ -68,7 +72,7 @@ list_at targets.Home n list = list
 list_at (targets.Before p) n list = insert_before n p (without list n)
 
 -- The session's live batch is committed at a place: of its writes those are installed whose key has no last version by a later member,
--- with the next number of commits as mark, which is that of the last commit of a batch, and it holds no table any more.
+-- with the next number of commits as mark, which is that of the last commit of a batch, it holds no table any more, and its commit is kept for the log.
 pub record HasCommittedAt (place : Target) (old : CoreView) (session : ℕ) (a : OpenView) (new : CoreView) : Type 0 where
   pub counters : new.counters ≡ old.counters
   pub list : new.list ≡ list_at place a.number old.list
@@ -79,3 +83,4 @@ pub record HasCommittedAt (place : Target) (old : CoreView) (session : ℕ) (a :
   pub opens : HasAt old.opens session None new.opens
   pub records : HasRecordedBatch (are_several_live old.preserve) old.records a new.records
   pub areas : new.areas ≡ areas_without a.number old.areas
+  pub log : HasLogged old.log new.log (BatchEvent a.number old.counters.epoch (target_of place) a.own.writes)

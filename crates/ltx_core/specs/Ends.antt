@@ -5,8 +5,8 @@ use Rattle.ltx_model.specs.Listings.{is_member, without}
 use Rattle.ltx_model.specs.Records.{Records}
 use Rattle.ltx_forward.specs.declared.decide.Live.{Live}
 use Rattle.ltx_core.specs.Recorded.{is_any_live, cleared_unless, areas_without}
-use Rattle.ltx_core.specs.declared.stage.Stage.{Stage}
-use Rattle.ltx_core.specs.declared.stage.Stage.TheVariants as stages
+use Rattle.ltx_open.specs.declared.stage.Stage.{Stage}
+use Rattle.ltx_open.specs.declared.stage.Stage.TheVariants as stages
 
 -- a batch holds no table any more
 abbrev pub left_batches : Stage → ℕ → List Holder → List Holder

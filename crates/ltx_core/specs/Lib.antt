@@ -1,9 +1,7 @@
 pub mod Built
 pub mod Since
 pub mod Views
-pub mod Slots
-pub mod Seen
-pub mod Operations
+pub mod Logged
 pub mod Installed
 pub mod Same
 pub mod Recorded

@@ -5,9 +5,7 @@ use Rattle.ltx_model.specs.Holders.{Holder}
 use Rattle.ltx_model.specs.Records.{Records}
 use Rattle.ltx_forward.specs.declared.decide.Live.{Live}
 use Rattle.ltx_reads.specs.Noted.{HasNoted}
-use Rattle.ltx_core.specs.declared.stage.Stage.{Stage}
-use Rattle.ltx_core.specs.declared.stage.Stage.TheVariants as stages
-use Rattle.ltx_core.specs.Views.{OpenView}
+use Rattle.ltx_open.specs.Views.{OpenView}
 
 -- some batch is live
 abbrev pub is_any_live : List Holder → Bool
@@ -16,12 +14,6 @@ is_any_live holders = list_any (λ h. h.live) holders
 -- more than one batch is live
 abbrev pub are_several_live : List Holder → Bool
 are_several_live holders = nat_lt 1 (length (filter (λ h. h.live) holders))
-
--- an open transaction that is no short
-abbrev pub is_batch : Stage → Bool
-is_batch stages.Short = false
-is_batch (stages.Pending d) = true
-is_batch (stages.Live d mark) = true
 
 -- one commit more was counted, and nothing of it is kept
 abbrev pub counted : Records → Records

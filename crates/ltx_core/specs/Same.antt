@@ -1,25 +1,9 @@
 -- A core that keeps the same; there may be other room.
-use Rattle.std.specs.Prelude.{◌≡◌, ℕ, List, Option, Some, None}
+use Rattle.std.specs.Prelude.{◌≡◌}
 use Rattle.ltx_store.specs.Kept.{HasSameVersions}
-use Rattle.ltx_core.specs.Views.{OpenView, CoreView}
-use Rattle.ltx_core.specs.Slots.{opened}
-
--- an open transaction with the same notes, marks and writes
-pub record IsSameOpen (old new : OpenView) : Type 0 where
-  pub number : new.number ≡ old.number
-  pub stage : new.stage ≡ old.stage
-  pub notes : new.notes.notes ≡ old.notes.notes
-  pub marks : new.notes.marks ≡ old.notes.marks
-  pub own : new.own.writes ≡ old.own.writes
-
-abbrev pub IsSameAt : Option OpenView → Option OpenView → Type 0
-IsSameAt None None = Unit {0}
-IsSameAt (Some a) (Some b) = IsSameOpen a b
-IsSameAt a b = ⊥
-
--- each session has the same
-abbrev pub AreSameOpens : List (Option OpenView) → List (Option OpenView) → Type 0
-AreSameOpens old new = (session : ℕ) → IsSameAt (opened old session) (opened new session)
+use Rattle.ltx_open.specs.Same.{AreSameOpens}
+use Rattle.ltx_core.specs.Views.{CoreView}
+use Rattle.ltx_core.specs.Logged.{IsSameLog}
 
 pub record IsSame (old new : CoreView) : Type 0 where
   pub counters : new.counters ≡ old.counters
@@ -31,3 +15,4 @@ pub record IsSame (old new : CoreView) : Type 0 where
   pub opens : AreSameOpens old.opens new.opens
   pub records : new.records ≡ old.records
   pub areas : new.areas ≡ old.areas
+  pub log : IsSameLog old.log new.log

@@ -23,12 +23,14 @@ use Rattle.ltx_chain.specs.declared.chain.Version.{Version}
 use Rattle.ltx_chain.specs.Versions as versions
 use Rattle.ltx_forward.specs.declared.decide.Live.{Live}
 use Rattle.ltx_store.specs.Kept.{Kept, versions_at, rows_at, latest_rows}
-use Rattle.ltx_core.specs.declared.stage.Stage.{Stage}
-use Rattle.ltx_core.specs.declared.stage.Stage.TheVariants as stages
+use Rattle.ltx_open.specs.declared.stage.Stage.{Stage}
+use Rattle.ltx_open.specs.declared.stage.Stage.TheVariants as stages
 use Rattle.ltx_core.specs.Built.{built}
 use Rattle.ltx_core.specs.Since.{has_batch_since}
-use Rattle.ltx_core.specs.Views.{OpenView, Counters, CoreView, declaration}
-use Rattle.ltx_core.specs.Slots.{opened}
+use Rattle.ltx_open.specs.Views.{OpenView, declaration}
+use Rattle.ltx_core.specs.Views.{Counters, CoreView}
+use Rattle.ltx_core.specs.Logged.{IsLogged}
+use Rattle.ltx_open.specs.Slots.{opened}
 
 -- the last write of a key, by the version that is seen
 abbrev pub write_seen : Option Version → Option LastWrite
@@ -131,7 +133,7 @@ AreApart o u = (u.session == o.session) ≡ false
 
 -- The counters are those of the state.
 abbrev pub counters_of : State → Counters
-counters_of s = record { epoch = s.epoch; durable = s.durable; last = s.last }
+counters_of s = record { epoch = s.epoch; last = s.last }
 
 -- a member is a slot exactly where it is entered as a batch that has begun
 abbrev pub IsSlotOf : List Holder → Member → Type 0
@@ -177,7 +179,7 @@ areas_of active = filter_map (λ o. area_of o.kind o.number) active
 abbrev pub ground : CoreView → State → Ground
 ground core s = record { store = core.store; commits = core.commits; batch = core.batch; base = s.base; agenda = s.agenda; moves = s.moves }
 
--- What the core keeps is what the state has.
+-- What the core keeps is what the state has, but for what it keeps for the log.
 pub record StandsAt (core : CoreView) (s : State) : Type 0 where
   pub counters : core.counters ≡ counters_of s
   pub agenda : HasAgenda core.list core.commits core.batch core.preserve s.agenda s.moves
@@ -187,14 +189,15 @@ pub record StandsAt (core : CoreView) (s : State) : Type 0 where
   pub records : AreRecordsOf s core.records
   pub areas : core.areas ≡ areas_of s.active
 
--- The core is where the history leads from the base.
-abbrev pub StandsFor : CoreView → Base → List Entry → Type 0
-StandsFor core base history = StandsAt core (state base history)
+-- The core is where the history leads from the base, and so is what it keeps for the log.
+pub record StandsFor (core : CoreView) (base : Base) (history : List Entry) : Type 0 where
+  pub at : StandsAt core (state base history)
+  pub logged : IsLogged core.log (state base history)
 
--- The core stands for some sound base and some legal history from it.
+-- The core stands at the state of some sound base and some legal history from it.
 pub record IsStanding (core : CoreView) : Type 0 where
   pub base : Base
   pub history : List Entry
   pub sound : IsSound base
   pub legal : IsLegalWith built base history
-  pub stands : StandsFor core base history
+  pub stands : StandsAt core (state base history)

@@ -4,19 +4,19 @@ ghost use Rattle.std.specs.Prelude.{IfOk, OnErr};
 ghost use Rattle.ltx_model.specs.declared.commands.Command.TheVariants.{Ask};
 ghost use Rattle.ltx_model.specs.declared.commands.Verb.TheVariants as verbs;
 ghost use Rattle.ltx_core.specs.Same.{IsSame};
-ghost use Rattle.ltx_core.specs.Steps.{Steps};
+ghost use Rattle.ltx_core.specs.Steps.{IsAnswered};
 
-use crate::stage::Stage;
 use crate::state::Core;
 use ltx_model::memory::NoMemory;
 use ltx_model::numbers::Session;
 use ltx_model::replies::Reply;
+use ltx_open::stage::Stage;
 
 impl Core {
     /// The session's open transaction commits or is refused. A pending batch is told from which
     /// epoch on it is live.
     pub(crate) fn commit(&mut self, session: Session) -> Result<Reply, NoMemory>
-        ensures ok { IfOk result (λ reply. Steps self.old (Ask session verbs.Commit) reply self.new) }
+        ensures ok { IfOk result (λ reply. IsAnswered self.old (Ask session verbs.Commit) reply self.new) }
         ensures err { OnErr result (IsSame self.old self.new) }
     {
         match self.opens.stage(session) {

@@ -9,7 +9,7 @@ ghost use Rattle.ltx_model.specs.Listings.{is_member};
 ghost use Rattle.ltx_agenda.specs.Placed.{HasRoomBefore};
 ghost use Rattle.ltx_core.specs.Decided.{HasLive, IsDecided, CanMove, list_at, reply_at};
 ghost use Rattle.ltx_core.specs.Same.{IsSame};
-ghost use Rattle.ltx_core.specs.Steps.{Steps};
+ghost use Rattle.ltx_core.specs.Steps.{IsAnswered};
 
 use crate::areas::drop_area;
 use crate::commit_home::settle_at_rest;
@@ -17,27 +17,31 @@ use crate::install::install_unless_later;
 use crate::record::record_batch;
 use crate::state::Core;
 use ltx_agenda::agenda::Agenda;
+use ltx_model::copies::copies_of;
 use ltx_model::memory::NoMemory;
 use ltx_model::numbers::{Session, Tx};
 use ltx_model::replies::Reply;
-use ltx_model::writes::Target;
+use ltx_model::writes::{Target, WriteList};
 
 impl Core {
     /// The session's live batch commits at the place that is decided. A write of a key whose last
-    /// version was written by a later member is not installed. All memory is taken before the first
-    /// change.
+    /// version was written by a later member is not installed, but is kept for the log with the others.
+    /// All memory is taken before the first change.
     pub(crate) fn commit_at(&mut self, session: Session, place: Target) -> Result<Reply, NoMemory>
         requires live { HasLive self.old session }
         requires decided { IsDecided self.old session (CommitAt place) }
-        ensures ok { IfOk result (λ reply. Steps self.old (Ask session verbs.Commit) reply self.new) }
+        ensures ok { IfOk result (λ reply. IsAnswered self.old (Ask session verbs.Commit) reply self.new) }
         ensures err { OnErr result (IsSame self.old self.new) }
     {
         let Some(open) = self.opens.get(session) else {
             return Ok(Reply::NoTx);
         };
         let tx = open.number();
+        let writes = copies_of(self.alloc, open.writes())?;
+        let slots = self.preserve.len() + 1;
         self.store.reserve(self.alloc, open.writes())?;
         reserve_place(&mut self.agenda, &place)?;
+        self.events.reserve(slots)?;
         record_batch(&mut self.records, open, &self.preserve)?;
         let Some(open) = self.opens.take(session) else {
             return Ok(Reply::NoTx);
@@ -47,9 +51,10 @@ impl Core {
         self.preserve.remove(tx);
         drop_area(&mut self.areas, tx);
         move_to(&mut self.agenda, tx, &place);
-        let writes = open.into_writes();
         install_unless_later(&mut self.store, &self.agenda, tx, self.commits, writes);
         settle_at_rest(&mut self.agenda, &self.preserve);
+        let own = WriteList::from_vec(open.into_writes());
+        self.events.batch(tx, self.epoch, place, own);
         Ok(reply_at(self.epoch, &place))
     }
 }

@@ -4,21 +4,22 @@ ghost use Rattle.std.specs.Prelude.{◌≡◌, Some, IfOk, OnErr, option_map};
 ghost use Rattle.ltx_model.specs.declared.commands.Command.TheVariants.{Ask};
 ghost use Rattle.ltx_model.specs.declared.commands.Verb.TheVariants as verbs;
 ghost use Rattle.ltx_forward.specs.Asked.{decision_of};
-ghost use Rattle.ltx_core.specs.declared.stage.Stage.TheVariants as stages;
-ghost use Rattle.ltx_core.specs.Views.{OpenView};
-ghost use Rattle.ltx_core.specs.Slots.{opened};
+ghost use Rattle.ltx_open.specs.declared.stage.Stage.TheVariants as stages;
+ghost use Rattle.ltx_open.specs.Views.{OpenView};
+ghost use Rattle.ltx_open.specs.Slots.{opened};
 ghost use Rattle.ltx_core.specs.Decided.{HasLive, IsDecided, IsRefused};
 ghost use Rattle.ltx_core.specs.Same.{IsSame};
-ghost use Rattle.ltx_core.specs.Steps.{Steps};
+ghost use Rattle.ltx_core.specs.Steps.{IsAnswered};
 
 use crate::areas::live_areas;
+use crate::decide::decide;
 use crate::end::leave;
-use crate::stage::Declared;
 use crate::state::Core;
 use ltx_forward::decide::Decision;
 use ltx_model::memory::NoMemory;
 use ltx_model::numbers::Session;
 use ltx_model::replies::Reply;
+use ltx_open::stage::Declared;
 
 impl Core {
     /// The session's live batch commits where its slot stands, if no batch committed since its slot
@@ -30,7 +31,7 @@ impl Core {
         mark: u64,
     ) -> Result<Reply, NoMemory>
         requires live { option_map (λ a. a.stage) (opened self.old.opens session) ≡ Some (stages.Live declared mark) }
-        ensures ok { IfOk result (λ reply. Steps self.old (Ask session verbs.Commit) reply self.new) }
+        ensures ok { IfOk result (λ reply. IsAnswered self.old (Ask session verbs.Commit) reply self.new) }
         ensures err { OnErr result (IsSame self.old self.new) }
     {
         let Some(open) = self.opens.get(session) else {
@@ -46,14 +47,14 @@ impl Core {
     /// What is decided of the commit of the session's live batch is done.
     fn commit_decided(&mut self, session: Session) -> Result<Reply, NoMemory>
         requires live { HasLive self.old session }
-        ensures ok { IfOk result (λ reply. Steps self.old (Ask session verbs.Commit) reply self.new) }
+        ensures ok { IfOk result (λ reply. IsAnswered self.old (Ask session verbs.Commit) reply self.new) }
         ensures err { OnErr result (IsSame self.old self.new) }
     {
         let Some(open) = self.opens.get(session) else {
             return Ok(Reply::NoTx);
         };
         let lives = live_areas(self.alloc, &self.areas, &self.preserve)?;
-        let decision = open.decide(&lives, &self.records, &self.agenda)?;
+        let decision = decide(open, &lives, &self.records, &self.agenda)?;
         self.carry_out(session, decision)
     }
 
@@ -61,7 +62,7 @@ impl Core {
     fn carry_out(&mut self, session: Session, decision: Decision) -> Result<Reply, NoMemory>
         requires live { HasLive self.old session }
         requires decided { IsDecided self.old session (decision_of decision) }
-        ensures ok { IfOk result (λ reply. Steps self.old (Ask session verbs.Commit) reply self.new) }
+        ensures ok { IfOk result (λ reply. IsAnswered self.old (Ask session verbs.Commit) reply self.new) }
         ensures err { OnErr result (IsSame self.old self.new) }
     {
         match decision {
@@ -106,7 +107,7 @@ impl Core {
     fn refuse(&mut self, session: Session, reply: Reply) -> Reply
         requires live { HasLive self.old session }
         requires refused { IsRefused self.old session reply }
-        ensures { Steps self.old (Ask session verbs.Commit) result self.new }
+        ensures { IsAnswered self.old (Ask session verbs.Commit) result self.new }
     {
         let Some(open) = self.opens.take(session) else {
             return Reply::NoTx;

@@ -4,16 +4,16 @@ ghost use Rattle.std.specs.Prelude.{◌≡◌};
 ghost use Rattle.ltx_model.specs.declared.commands.Command.TheVariants.{Ask};
 ghost use Rattle.ltx_model.specs.declared.commands.Verb.TheVariants.{Abort};
 ghost use Rattle.ltx_core.specs.Ends.{left_batches, left_list, left_areas, left_records, IsKnownAs};
-ghost use Rattle.ltx_core.specs.Steps.{Steps};
+ghost use Rattle.ltx_core.specs.Steps.{IsAnswered};
 
 use crate::areas::drop_area;
-use crate::open::Open;
-use crate::stage::Stage;
 use crate::state::Core;
 use ltx_agenda::agenda::Agenda;
 use ltx_forward::decide::Live;
 use ltx_model::numbers::Session;
 use ltx_model::replies::Reply;
+use ltx_open::open::Open;
+use ltx_open::stage::Stage;
 use ltx_preserve::preserve::Preserve;
 use ltx_reads::records::Records;
 
@@ -21,7 +21,7 @@ impl Core {
     /// The session's open transaction is given up. A batch holds no table any more, and a live one
     /// leaves the agenda.
     pub(crate) fn abort(&mut self, session: Session) -> Reply
-        ensures { Steps self.old (Ask session Abort) result self.new }
+        ensures { IsAnswered self.old (Ask session Abort) result self.new }
     {
         let Some(open) = self.opens.take(session) else {
             return Reply::NoTx;

@@ -4,24 +4,24 @@ ghost use Rattle.std.specs.Prelude.{◌≡◌, Some, None, IfOk, OnErr, option_m
 ghost use Rattle.ltx_model.specs.declared.commands.Command.TheVariants.{Ask};
 ghost use Rattle.ltx_model.specs.declared.commands.Verb.TheVariants.{Do};
 ghost use Rattle.ltx_model.specs.Answers.{refusal};
-ghost use Rattle.ltx_core.specs.declared.stage.Stage.TheVariants as stages;
-ghost use Rattle.ltx_core.specs.Views.{declaration};
-ghost use Rattle.ltx_core.specs.Slots.{opened};
+ghost use Rattle.ltx_open.specs.declared.stage.Stage.TheVariants as stages;
+ghost use Rattle.ltx_open.specs.Views.{declaration};
+ghost use Rattle.ltx_open.specs.Slots.{opened};
 ghost use Rattle.ltx_core.specs.Same.{IsSame};
-ghost use Rattle.ltx_core.specs.Steps.{Steps};
+ghost use Rattle.ltx_core.specs.Steps.{IsAnswered};
 
-use crate::stage::{Declared, Stage, table_of};
 use crate::state::Core;
 use ltx_model::commands::Op;
 use ltx_model::memory::NoMemory;
 use ltx_model::numbers::Session;
 use ltx_model::replies::Reply;
+use ltx_open::stage::{Declared, Stage, table_of};
 
 impl Core {
     /// An operation of the session's open transaction. A pending batch is told from which epoch on
     /// it is live.
     pub(crate) fn operate(&mut self, session: Session, op: &Op) -> Result<Reply, NoMemory>
-        ensures ok { IfOk result (λ reply. Steps self.old (Ask session (Do op.now)) reply self.new) }
+        ensures ok { IfOk result (λ reply. IsAnswered self.old (Ask session (Do op.now)) reply self.new) }
         ensures err { OnErr result (IsSame self.old self.new) }
     {
         match self.opens.stage(session) {
@@ -37,7 +37,7 @@ impl Core {
     /// An operation of a short: on the latest rows, or the end of the short where its table is held.
     fn operate_short(&mut self, session: Session, op: &Op) -> Result<Reply, NoMemory>
         requires short { option_map (λ a. a.stage) (opened self.old.opens session) ≡ Some stages.Short }
-        ensures ok { IfOk result (λ reply. Steps self.old (Ask session (Do op.now)) reply self.new) }
+        ensures ok { IfOk result (λ reply. IsAnswered self.old (Ask session (Do op.now)) reply self.new) }
         ensures err { OnErr result (IsSame self.old self.new) }
     {
         let table = table_of(op);
@@ -61,7 +61,7 @@ impl Core {
         op: &Op,
     ) -> Result<Reply, NoMemory>
         requires live { option_map (λ a. a.stage) (opened self.old.opens session) ≡ Some (stages.Live declared mark) }
-        ensures ok { IfOk result (λ reply. Steps self.old (Ask session (Do op.now)) reply self.new) }
+        ensures ok { IfOk result (λ reply. IsAnswered self.old (Ask session (Do op.now)) reply self.new) }
         ensures err { OnErr result (IsSame self.old self.new) }
     {
         match declared.refusal(op) {

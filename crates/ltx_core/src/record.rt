@@ -3,10 +3,11 @@
 ghost use Rattle.std.specs.Prelude.{◌≡◌, ◌<◌, false, true, OnOk, OnErr};
 ghost use Rattle.ltx_model.specs.Limits.{last_number};
 ghost use Rattle.ltx_model.specs.Records.{is_kept};
-ghost use Rattle.ltx_core.specs.Recorded.{is_any_live, are_several_live, is_batch, HasRecordedShort, HasRecordedBatch};
+ghost use Rattle.ltx_open.specs.Views.{is_batch};
+ghost use Rattle.ltx_core.specs.Recorded.{is_any_live, are_several_live, HasRecordedShort, HasRecordedBatch};
 
-use crate::open::Open;
 use ltx_model::memory::NoMemory;
+use ltx_open::open::Open;
 use ltx_preserve::preserve::Preserve;
 use ltx_reads::records::Records;
 

@@ -1,8 +1,8 @@
 //! The state of a run: what a core keeps, and what it lends.
 //!
 //! It keeps the counters, the agenda with the number of commits, the versions of all keys, the
-//! batches that have begun, each open transaction, and what is recorded of commits beside live
-//! batches. The number of commits is the newest mark.
+//! batches that have begun, each open transaction, what is recorded of commits beside live
+//! batches, and the events that are not durable yet. The number of commits is the newest mark.
 
 ghost use Rattle.std.specs.Prelude.{◌≡◌, [], ℕ, not, List, filter, IfOk, is_some};
 ghost use Rattle.ltx_model.specs.declared.replies.Entry.{Entry};
@@ -15,12 +15,13 @@ ghost use Rattle.ltx_store.specs.Kept.{latest_rows};
 ghost use Rattle.ltx_core.specs.Stands.{StandsFor};
 
 use crate::install::load;
-use crate::opens::Opens;
 use ltx_agenda::agenda::Agenda;
+use ltx_events::events::Events;
 use ltx_forward::decide::Live;
 use ltx_model::base::Recovered;
 use ltx_model::memory::NoMemory;
 use ltx_model::numbers::{Session, Tx};
+use ltx_open::opens::Opens;
 use ltx_preserve::preserve::Preserve;
 use ltx_reads::records::Records;
 use ltx_store::store::Store;
@@ -48,6 +49,8 @@ pub struct Core {
     pub(crate) records: Records,
     /// The batches that have begun, pending or live, in the order of their begins, with their areas.
     pub(crate) areas: Vec<Live>,
+    /// The slots and commits of the epochs that are not durable yet.
+    pub(crate) events: Events,
 }
 
 impl Model for Core {
@@ -56,9 +59,9 @@ impl Model for Core {
 
     ghost Value = { CoreView };
 
-    ghost view = { λ c. record { counters = record { epoch = c.epoch; durable = c.durable; last = c.last }; list = c.agenda.list; room = c.agenda.room; commits = c.commits; batch = c.batch; store = c.store; preserve = c.preserve; opens = c.opens; records = c.records; areas = c.areas.items } };
+    ghost view = { λ c. record { counters = record { epoch = c.epoch; last = c.last }; list = c.agenda.list; room = c.agenda.room; commits = c.commits; batch = c.batch; store = c.store; preserve = c.preserve; opens = c.opens; records = c.records; areas = c.areas.items; log = record { durable = c.durable; events = c.events } } };
 
-    ghost invariant = { λ c. IsCore (record { counters = record { epoch = c.epoch; durable = c.durable; last = c.last }; list = c.agenda.list; room = c.agenda.room; commits = c.commits; batch = c.batch; store = c.store; preserve = c.preserve; opens = c.opens; records = c.records; areas = c.areas.items }) };
+    ghost invariant = { λ c. IsCore (record { counters = record { epoch = c.epoch; last = c.last }; list = c.agenda.list; room = c.agenda.room; commits = c.commits; batch = c.batch; store = c.store; preserve = c.preserve; opens = c.opens; records = c.records; areas = c.areas.items; log = record { durable = c.durable; events = c.events } }) };
 }
 
 impl Core {
@@ -81,6 +84,7 @@ impl Core {
             opens: Opens::new(alloc),
             records: Records::new(alloc),
             areas: Vec::new(alloc),
+            events: Events::new(alloc),
         })
     }
 
@@ -119,6 +123,7 @@ impl Core {
 
     /// The current epoch.
     pub fn epoch(&self) -> u32
+        ensures counter { result ≡ self.now.counters.epoch }
         ensures value { (base : Base) (history : List Entry) → StandsFor self.now base history → result ≡ (state base history).epoch }
     {
         self.epoch
@@ -126,6 +131,7 @@ impl Core {
 
     /// The epoch through which everything is durable.
     pub fn durable(&self) -> u32
+        ensures kept { result ≡ self.now.log.durable }
         ensures value { (base : Base) (history : List Entry) → StandsFor self.now base history → result ≡ (state base history).durable }
     {
         self.durable

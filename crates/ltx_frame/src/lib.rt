@@ -6,7 +6,7 @@ pub mod decode;
 pub mod encode;
 pub mod event;
 pub mod frame;
-mod limits;
+pub mod limits;
 mod numbers;
 mod parts;
 mod pieces;

@@ -15,14 +15,14 @@ fn bytes(bytes: &[u8])
 {}
 
 /// A transaction is numbered from 1 on, in 63 bits.
-pub(crate) fn tx(tx: Tx)
+pub fn tx(tx: Tx)
     ensures { IsTx tx }
 {
     let _ = tx.number();
 }
 
 /// A target is a transaction, if there is one.
-pub(crate) fn target(target: Target)
+pub fn target(target: Target)
     ensures { IsTarget (target_of target) }
 {
     if let Target::Before(n) = target {
@@ -45,7 +45,7 @@ fn value(value: &Value)
 }
 
 /// A write has a table, a key and maybe a value.
-pub(crate) fn write(write: &Write)
+pub fn write(write: &Write)
     ensures { IsWithin write.now }
 {
     let _ = write.table.number();
