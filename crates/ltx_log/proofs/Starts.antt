@@ -53,9 +53,6 @@ module _ (size : ℕ) (front : List ℕ) where
 
 -- ---- what is opened
 
-pub opened_blank : (o : Option (List ℕ)) (frames : List Placed) (gate : ℕ) → frames ≡ [] → IfSome o IsBlank → IfSome o (λ bytes. IsOpenedAs bytes frames gate)
-opened_blank o frames gate none blank = told_map IsBlank (λ bytes. IsOpenedAs bytes frames gate) o (λ bytes is. inl (is, none)) blank
-
 pub opened_log : (o : Option (List ℕ)) (frames : List Placed) (gate : ℕ) → IfSome o (λ bytes. IsLogOf bytes frames gate) → IfSome o (λ bytes. IsOpenedAs bytes frames gate)
 opened_log o frames gate log = told_map (λ bytes. IsLogOf bytes frames gate) (λ bytes. IsOpenedAs bytes frames gate) o (λ bytes is. inr is) log
 

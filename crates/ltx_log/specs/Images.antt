@@ -1,6 +1,12 @@
 -- What a call leaves of the images of a disk, where the disk tells its bytes and them.
-use Rattle.std.specs.Prelude.{ℕ, List, Option, IfSome, IsSomeAnd}
+use Rattle.std.specs.Prelude.{ℕ, List, Option, Some, None, IfSome, IsSomeAnd}
 use Rattle.ltx_model.specs.Disks.{Crashes, IsSettled, Leaves}
+
+-- what was told goes on being told
+abbrev pub StaysTold : Option (List ℕ) → Option (List ℕ) → Type 0
+StaysTold None new = Unit {0}
+StaysTold (Some old) None = ⊥
+StaysTold (Some old) (Some new) = Unit {0}
 
 -- nothing is pending
 abbrev pub IsStill : Option (List ℕ) → Option Crashes → Type 0

@@ -2,7 +2,7 @@
 use Rattle.std.specs.Prelude.{◌≡◌, ◌⊎◌, ℕ, ◌+◌, ◌≤◌, List, [], ◌∷◌, ◌++◌, Bool, true, false, Option, IfSome}
 use Rattle.ltx_model.specs.Frames.{Frame}
 use Rattle.ltx_model.specs.Spellings.{body_bytes, IsFrame}
-use Rattle.ltx_model.specs.Contents.{Placed, IsBlank, IsLogOf, framed, epoch_after, frames_in, next_gate}
+use Rattle.ltx_model.specs.Contents.{Placed, IsBlank, IsLogOf, framed, epoch_after, frames_in, next_gate, first_gate}
 use Rattle.ltx_model.specs.Disks.{Crashes, EachImage}
 use Rattle.ltx_outside.specs.Faults.{Rose}
 use Rattle.ltx_log.specs.declared.fault.AppendFault.{AppendFault}
@@ -85,6 +85,6 @@ LeavesFrames old new faults.DiskFault = Unit {0}
 abbrev pub OpensTo : List ℕ → List ℕ → Type 0
 OpensTo old new = (new ≡ old) ⊎ (IsBlank old × IsFresh new)
 
--- the bytes were blank, and there are no frames, or they were a log of these
+-- the bytes were blank, and there are no frames before the first gate, or they were a log of these
 abbrev pub IsOpenedAs : List ℕ → List Placed → ℕ → Type 0
-IsOpenedAs bytes frames gate = (IsBlank bytes × (frames ≡ [])) ⊎ IsLogOf bytes frames gate
+IsOpenedAs bytes frames gate = (IsBlank bytes × (frames ≡ []) × (gate ≡ first_gate)) ⊎ IsLogOf bytes frames gate

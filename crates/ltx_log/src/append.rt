@@ -5,7 +5,7 @@ ghost use Rattle.ltx_model.specs.Frames.{Frame};
 ghost use Rattle.ltx_model.specs.Contents.{IsClosedAt};
 ghost use Rattle.ltx_outside.specs.Contents.{overwritten};
 ghost use Rattle.ltx_outside.specs.Faults.{Rose};
-ghost use Rattle.ltx_log.specs.Images.{IsStill, EachSince};
+ghost use Rattle.ltx_log.specs.Images.{IsStill, EachSince, StaysTold};
 ghost use Rattle.ltx_log.specs.Running.{IsPiece, MayAddFrame};
 
 use crate::settle::settle;
@@ -18,6 +18,7 @@ pub(crate) fn write_frame<D: Disk>(disk: &mut D, gate: u64, piece: &[u8]) -> Res
     requires still { IsStill (D.content disk.old) (D.crashes disk.old) }
     ensures content { OnOk result (IfSome (D.content disk.old) (λ bytes. D.content disk.new ≡ Some (overwritten gate (1 ∷ []) (overwritten (gate + 1) piece.now bytes)))) }
     ensures since { (last : ℕ) (f : Frame) → IsPiece piece.now gate last f → EachSince (MayAddFrame gate last f) (D.content disk.old) (D.crashes disk.old) (D.crashes disk.new) }
+    ensures told { StaysTold (D.content disk.old) (D.content disk.new) }
     ensures untold { IfNone (D.content disk.old) (D.content disk.new ≡ None) }
     ensures secret { IfNone (D.crashes disk.old) (D.crashes disk.new ≡ None) }
     ensures settled { OnOk result (IsStill (D.content disk.new) (D.crashes disk.new)) }

@@ -1,9 +1,9 @@
 //! A log that is open for appending.
 
-ghost use Rattle.std.specs.Prelude.{◌≡◌, ◌≤◌, ◌<◌, ◌+◌, false, OnOk, IfOk, IfErr, IfSome, IfNone, None, IsSomeAnd};
+ghost use Rattle.std.specs.Prelude.{◌≡◌, ◌≤◌, ◌<◌, ◌+◌, false, OnOk, IfOk, OnErr, IfErr, IfSome, IfNone, None, IsSomeAnd};
 ghost use Rattle.ltx_model.specs.Contents.{next_gate};
 ghost use Rattle.ltx_log.specs.Causes.{IsContentCause};
-ghost use Rattle.ltx_log.specs.Images.{IsStill, EachSince};
+ghost use Rattle.ltx_log.specs.Images.{IsStill, EachSince, StaysTold};
 ghost use Rattle.ltx_log.specs.Readings.{placed_in};
 ghost use Rattle.ltx_log.specs.Running.{IsOpenedAs, OpensTo, IsLogTo, HasRoom, AddsFrame, MayAddFrame, EachNow, IsAppendCause, LeavesFrames};
 
@@ -69,6 +69,7 @@ impl<'d, D: Disk> Log<'d, D> {
         ensures running { IfOk result (λ opened. opened.0.closed ≡ false) }
         ensures settled { IfOk result (λ opened. IsStill opened.0.content opened.0.crashes) }
         ensures since { IsStill (D.content disk.old) (D.crashes disk.old) → IfOk result (λ opened. EachSince OpensTo (D.content disk.old) (D.crashes disk.old) opened.0.crashes) }
+        ensures told { IfOk result (λ opened. StaysTold (D.content disk.old) opened.0.content) }
         ensures untold { IfNone (D.content disk.old) (IfOk result (λ opened. opened.0.content ≡ None)) }
         ensures secret { IfNone (D.crashes disk.old) (IfOk result (λ opened. opened.0.crashes ≡ None)) }
         ensures calm { IfOk result (λ opened. opened.0.faults ≡ D.faults disk.old) }
@@ -91,6 +92,9 @@ impl<'d, D: Disk> Log<'d, D> {
         ensures since { self.old.closed ≡ false → EachSince (MayAddFrame self.old.gate self.old.last frame.now) self.old.content self.old.crashes self.new.crashes }
         ensures added { OnOk result (EachNow (AddsFrame self.old.gate self.old.last frame.now) self.old.content self.new.crashes) }
         ensures left { IfErr result (LeavesFrames self.old self.new) }
+        ensures settled { self.new.closed ≡ false → IsStill self.new.content self.new.crashes }
+        ensures place { OnErr result ((self.new.gate ≡ self.old.gate) × (self.new.last ≡ self.old.last)) }
+        ensures told { StaysTold self.old.content self.new.content }
         ensures untold { IfNone self.old.content (self.new.content ≡ None) }
         ensures secret { IfNone self.old.crashes (self.new.crashes ≡ None) }
         ensures loan { self.new.loan ≡ self.old.loan }

@@ -3,7 +3,7 @@
 ghost use Rattle.std.specs.Prelude.{◌≡◌, ◌≤◌, ◌∷◌, ◌++◌, [], ℕ, List, length, OnOk, OnErr, Some, None, IfSome, IfNone};
 ghost use Rattle.ltx_model.specs.Contents.{IsBlank, IsUnopened, header};
 ghost use Rattle.ltx_outside.specs.Faults.{Rose};
-ghost use Rattle.ltx_log.specs.Images.{IsStill, EachSince};
+ghost use Rattle.ltx_log.specs.Images.{IsStill, EachSince, StaysTold};
 ghost use Rattle.ltx_log.specs.Readings.{IsFront};
 ghost use Rattle.ltx_log.specs.Making.{IsShut, Lacks, IsFresh};
 
@@ -44,6 +44,7 @@ fn open_header<D: Disk>(disk: &mut D) -> Result<(), Failed>
     requires still { IsStill (D.content disk.old) (D.crashes disk.old) }
     ensures made { OnOk result (IfSome (D.content disk.old) (λ bytes. D.content disk.new ≡ Some (1 ∷ header ++ 0 ∷ []))) }
     ensures since { EachSince (λ bytes. IsFresh) (D.content disk.old) (D.crashes disk.old) (D.crashes disk.new) }
+    ensures told { StaysTold (D.content disk.old) (D.content disk.new) }
     ensures untold { IfNone (D.content disk.old) (D.content disk.new ≡ None) }
     ensures secret { IfNone (D.crashes disk.old) (D.crashes disk.new ≡ None) }
     ensures settled { OnOk result (IsStill (D.content disk.new) (D.crashes disk.new)) }
@@ -60,6 +61,7 @@ fn write_header<D: Disk>(disk: &mut D) -> Result<(), Failed>
     requires still { IsStill (D.content disk.old) (D.crashes disk.old) }
     ensures made { OnOk result (IfSome (D.content disk.old) (λ bytes. D.content disk.new ≡ Some (1 ∷ header ++ 0 ∷ []))) }
     ensures since { EachSince (λ bytes. IsFresh) (D.content disk.old) (D.crashes disk.old) (D.crashes disk.new) }
+    ensures told { StaysTold (D.content disk.old) (D.content disk.new) }
     ensures untold { IfNone (D.content disk.old) (D.content disk.new ≡ None) }
     ensures secret { IfNone (D.crashes disk.old) (D.crashes disk.new ≡ None) }
     ensures settled { OnOk result (IsStill (D.content disk.new) (D.crashes disk.new)) }
@@ -79,6 +81,7 @@ fn write_all<D: Disk>(disk: &mut D) -> Result<(), Failed>
     requires still { IsStill (D.content disk.old) (D.crashes disk.old) }
     ensures made { OnOk result (IfSome (D.content disk.old) (λ bytes. D.content disk.new ≡ Some (1 ∷ header ++ 0 ∷ []))) }
     ensures since { EachSince (λ bytes. IsFresh) (D.content disk.old) (D.crashes disk.old) (D.crashes disk.new) }
+    ensures told { StaysTold (D.content disk.old) (D.content disk.new) }
     ensures untold { IfNone (D.content disk.old) (D.content disk.new ≡ None) }
     ensures secret { IfNone (D.crashes disk.old) (D.crashes disk.new ≡ None) }
     ensures settled { OnOk result (IsStill (D.content disk.new) (D.crashes disk.new)) }
@@ -98,6 +101,7 @@ pub(crate) fn make_log<D: Disk>(disk: &mut D, lack: Lack) -> Result<(), Failed>
     requires still { IsStill (D.content disk.old) (D.crashes disk.old) }
     ensures made { OnOk result (IfSome (D.content disk.old) (λ bytes. D.content disk.new ≡ Some (1 ∷ header ++ 0 ∷ []))) }
     ensures since { EachSince (λ bytes. IsFresh) (D.content disk.old) (D.crashes disk.old) (D.crashes disk.new) }
+    ensures told { StaysTold (D.content disk.old) (D.content disk.new) }
     ensures untold { IfNone (D.content disk.old) (D.content disk.new ≡ None) }
     ensures secret { IfNone (D.crashes disk.old) (D.crashes disk.new ≡ None) }
     ensures settled { OnOk result (IsStill (D.content disk.new) (D.crashes disk.new)) }

@@ -1,9 +1,10 @@
 //! What an opening does before the log stands.
 
 ghost use Rattle.std.specs.Prelude.{◌≡◌, ◌≤◌, ◌<◌, length, IfOk, IfErr, OnOk, OnErr, IfSome, IfNone, Some, None};
+ghost use Rattle.ltx_model.specs.Contents.{epoch_after, frames_in};
 ghost use Rattle.ltx_outside.specs.Faults.{Rose};
 ghost use Rattle.ltx_log.specs.Causes.{IsCause};
-ghost use Rattle.ltx_log.specs.Images.{IsStill, EachSince};
+ghost use Rattle.ltx_log.specs.Images.{IsStill, EachSince, StaysTold};
 ghost use Rattle.ltx_log.specs.Readings.{IsFront, placed_in};
 ghost use Rattle.ltx_log.specs.Running.{IsLogTo, OpensTo, IsOpenedAs};
 
@@ -22,9 +23,11 @@ fn begin<D: Disk>(alloc: Global, disk: &mut D, size: u64, front: &[u8]) -> Resul
     requires still { IsStill (D.content disk.old) (D.crashes disk.old) }
     ensures log { IfOk result (λ course. IfSome (D.content disk.new) (λ bytes. IsLogTo bytes (placed_in course.frames.items) course.gate course.epoch)) }
     ensures read { IfOk result (λ course. IfSome (D.content disk.old) (λ bytes. IsOpenedAs bytes (placed_in course.frames.items) course.gate)) }
+    ensures epoch { IfOk result (λ course. course.epoch ≡ epoch_after 0 (frames_in (placed_in course.frames.items))) }
     ensures limit { IfOk result (λ course. course.gate < 1099511627776) }
     ensures since { EachSince OpensTo (D.content disk.old) (D.crashes disk.old) (D.crashes disk.new) }
     ensures settled { OnOk result (IsStill (D.content disk.new) (D.crashes disk.new)) }
+    ensures told { StaysTold (D.content disk.old) (D.content disk.new) }
     ensures untold { IfNone (D.content disk.old) (D.content disk.new ≡ None) }
     ensures secret { IfNone (D.crashes disk.old) (D.crashes disk.new ≡ None) }
     ensures cause { IfErr result (IsCause (D.content disk.old) (D.faults disk.old) (D.faults disk.new)) }
@@ -46,9 +49,11 @@ fn begin<D: Disk>(alloc: Global, disk: &mut D, size: u64, front: &[u8]) -> Resul
 pub fn start<D: Disk>(alloc: Global, disk: &mut D) -> Result<Course, OpenFault>
     ensures log { IfOk result (λ course. IfSome (D.content disk.new) (λ bytes. IsLogTo bytes (placed_in course.frames.items) course.gate course.epoch)) }
     ensures read { IfOk result (λ course. IfSome (D.content disk.old) (λ bytes. IsOpenedAs bytes (placed_in course.frames.items) course.gate)) }
+    ensures epoch { IfOk result (λ course. course.epoch ≡ epoch_after 0 (frames_in (placed_in course.frames.items))) }
     ensures limit { IfOk result (λ course. course.gate < 1099511627776) }
     ensures since { IsStill (D.content disk.old) (D.crashes disk.old) → EachSince OpensTo (D.content disk.old) (D.crashes disk.old) (D.crashes disk.new) }
     ensures settled { OnOk result (IsStill (D.content disk.new) (D.crashes disk.new)) }
+    ensures told { StaysTold (D.content disk.old) (D.content disk.new) }
     ensures untold { IfNone (D.content disk.old) (D.content disk.new ≡ None) }
     ensures secret { IfNone (D.crashes disk.old) (D.crashes disk.new ≡ None) }
     ensures cause { IfErr result (IsCause (D.content disk.old) (D.faults disk.old) (D.faults disk.new)) }

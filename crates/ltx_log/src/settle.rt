@@ -5,7 +5,7 @@ ghost use Rattle.ltx_model.specs.Disks.{Leaves, Torn};
 ghost use Rattle.ltx_outside.specs.Contents.{overwritten, ChangesWithin};
 ghost use Rattle.ltx_outside.specs.Faults.{Rose};
 ghost use Rattle.ltx_outside.specs.declared.disk.TheConstants.{LOG_LIMIT};
-ghost use Rattle.ltx_log.specs.Images.{IsStill, EachSince};
+ghost use Rattle.ltx_log.specs.Images.{IsStill, EachSince, StaysTold};
 
 use ltx_outside::{Disk, Failed};
 
@@ -17,6 +17,7 @@ pub(crate) fn settle<D: Disk>(disk: &mut D, at: u64, piece: &[u8]) -> Result<(),
     requires still { IsStill (D.content disk.old) (D.crashes disk.old) }
     ensures bytes { OnOk result (IfSome (D.content disk.old) (λ bytes. D.content disk.new ≡ Some (overwritten at piece.now bytes))) }
     ensures range { IfSome (D.content disk.old) (λ bytes. IsSomeAnd (D.content disk.new) (ChangesWithin at (length piece.now) bytes)) }
+    ensures told { StaysTold (D.content disk.old) (D.content disk.new) }
     ensures untold { IfNone (D.content disk.old) (D.content disk.new ≡ None) }
     ensures secret { IfNone (D.crashes disk.old) (D.crashes disk.new ≡ None) }
     ensures since { IfSome (D.content disk.old) (λ bytes. IfSome (D.crashes disk.old) (λ old. IsSomeAnd (D.crashes disk.new) (Leaves (Torn at (length piece.now) bytes) old))) }

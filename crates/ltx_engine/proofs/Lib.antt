@@ -1,0 +1,10 @@
+pub mod Quiet
+pub mod Frames
+pub mod Answers
+pub mod Written
+pub mod Standing
+pub mod Since
+pub mod Cores
+pub mod Running
+pub mod Flushing
+pub mod Recoveries
