@@ -1,14 +1,15 @@
 #!/usr/bin/env python3
 """Runs the workloads of scripts.py through the program and prints a table.
 
-usage: run.py PROGRAM [quick] [sqlite]
+usage: run.py PROGRAM [quick] [sqlite] [check]
 
 PROGRAM is what the gate leaves at crates/ltx_run/out/ltx_run. Costs are instructions under valgrind's callgrind, less
 those of the rows that a workload loads first; a workload of 1,000,000 rows is measured by processor time and peak of
 memory alone. Under the row of 1,000 lines a transaction stands what of its cost lies outside the core: reader, parser,
 printer and the end of the run; under one beside live batches, how many times the cost beside none it is. `quick` leaves
 out what takes minutes. `sqlite` adds the same script's cost through
-SQLite's C library (sqlite.c, built here where the library is installed), in memory, with prepared statements.
+SQLite's C library (sqlite.c, built here where the library is installed), in memory, with prepared statements. `check` adds the cost
+of checking what each run prints, and how many times the cost of printing it that is.
 """
 import os
 import re
@@ -81,6 +82,30 @@ def resources(program, path):
     return used.ru_utime, used.ru_maxrss * 1024
 
 
+def transcript(program, path):
+    """What a run of the script prints, in a file beside it."""
+    with open(path) as source, open(f"{path}.out", "w") as out:
+        if subprocess.run(program, stdin=source, stdout=out).returncode != 0:
+            sys.exit(f"{path}: the run failed")
+    return f"{path}.out"
+
+
+def print_checks(program, folder, table):
+    """The instructions that a check takes, an entry of the transcript."""
+    print(f"{'check of what is printed':42} {'entries':>9} {'instructions an entry':>22} {'growth':>7} {'of the run':>10}")
+    for name, workload, counts, _ in table:
+        first = None
+        for count in counts:
+            path = write(folder, workload, count)
+            printed = transcript(program, path)
+            with open(printed) as text:
+                entries = sum(1 for _ in text) - 2
+            took = instructions([program[0], "check"], printed, folder)
+            each = took / entries
+            first = first or each
+            print(f"{name:42} {entries:9} {each:22.0f} {each / first:7.2f} {took / instructions(program, path, folder):10.2f}", flush=True)
+
+
 def sqlite(folder):
     """The words that run a script through SQLite, or None where its library is not installed."""
     program = os.path.join(folder, "sqlite")
@@ -121,6 +146,9 @@ def main():
         for name, workload, count in [] if quick else TIMED:
             took, peak = resources(program, write(folder, workload, count))
             print(f"{name:42} {count:9} {1e6 * took / count:12.2f} microseconds a row, {peak / count:.0f} bytes of memory", flush=True)
+        if "check" in sys.argv[2:]:
+            print()
+            print_checks(program, folder, table)
         if "sqlite" in sys.argv[2:]:
             other = sqlite(folder)
             print("\nthe same through SQLite" if other else "\nSQLite's library is not installed")

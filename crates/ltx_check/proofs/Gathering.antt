@@ -71,7 +71,7 @@ pub gathered_none : (entries : List Entry) (d : Desk) (parts : BTreeMap ℕ (Lis
 unfolding opens_from told_from
 gathered_none entries d parts desk none = subst (λ e. Gathered entries 0 e parts) (sym desk) (record { alike = tt; told = none })
 
-length_take : {A : Type 0} (xs : List A) (i : ℕ) → i < length xs → length (take i xs) ≡ i
+pub length_take : {A : Type 0} (xs : List A) (i : ℕ) → i < length xs → length (take i xs) ≡ i
 length_take [] i low = absurd (omega (arith, low))
 length_take (x ∷ xs) zero low = refl
 length_take (x ∷ xs) (suc i) low = let rest = length_take xs i (omega (arith, low)) in omega (arith, rest)

@@ -10,12 +10,26 @@ use Rattle.ltx_check.specs.Opens.{IsWellPlaced}
 use Rattle.ltx_check.specs.Orders.{HasCommitted}
 use Rattle.ltx_check.specs.Replays.{Told, told_of, transaction_in, IsToldIn, Differs, Finds, RunPlays, RunDiffers}
 use Rattle.ltx_check.proofs.Gathering.{told_stand}
-use Rattle.ltx_check.specs.Verdicts.{IsExplainedText, IsRepliedOtherwise}
+use Rattle.ltx_check.specs.Marks.{KeepsPlaces, AgainstAt, in_order, commits_of}
+use Rattle.ltx_check.specs.Checked.{IsChecked}
+use Rattle.ltx_check.specs.Verdicts.{IsRepliedOtherwise, IsMisplacedCommit}
 use Rattle.ltx_check.proofs.Explaining.{explained}
 
 module _ {history : List Entry} {order : List ℕ} {durable : ℕ} (placed : IsWellPlaced history) (members : HasCommitted history order) where
-  pub judged_yes : RunPlays history [] order → (text : List ℕ) → Says text history order durable → IsExplainedText text
-  judged_yes all text says = record { history = history; order = order; durable = durable; says = says; placed = placed; explained = explained history order placed members all }
+  pub judged_yes : RunPlays history [] order → KeepsPlaces history order → (text : List ℕ) → Says text history order durable → IsChecked text
+  judged_yes all places text says = record { history = history; order = order; durable = durable; says = says; placed = placed; explained = explained history order placed members all; places = places }
+
+  pub judged_marks : RunPlays history [] order → (place number : ℕ) → number ≡ place + 1 → Finds (KeepsPlaces history order) (AgainstAt (in_order (commits_of history) order)) (Some place)
+      → (text : List ℕ) → Says text history order durable → IsMisplacedCommit text number
+  judged_marks all place number counted finds text says = record {
+    history = history;
+    order = order;
+    durable = durable;
+    says = says;
+    placed = placed;
+    explained = explained history order placed members all;
+    fault = record { place = place; against = finds.0; first = finds.1; counted = counted };
+  }
 
   pub judged_other : (place number : ℕ) → number ≡ place + 1 → Finds (RunPlays history [] order) (RunDiffers history [] order) (Some place) → (text : List ℕ) → Says text history order durable → IsRepliedOtherwise text number
   judged_other place number counted finds text says = record {

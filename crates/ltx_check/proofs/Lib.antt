@@ -17,4 +17,6 @@ pub mod Ranges
 pub mod RowSteps
 pub mod Gathering
 pub mod Replaying
+pub mod CommitSteps
+pub mod Standing
 pub mod Judging

@@ -8,4 +8,6 @@ pub mod Orders
 pub mod Found
 pub mod Tables
 pub mod Replays
+pub mod Marks
+pub mod Checked
 pub mod Verdicts

@@ -8,7 +8,7 @@ use ltx_model::replies::Reply;
 
 /// What a line asks.
 #[derive(Clone, Copy, Debug, PartialEq, Eq)]
-pub(crate) enum Asked {
+pub enum Asked {
     Short,
     Long,
     Get,

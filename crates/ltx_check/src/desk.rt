@@ -7,8 +7,10 @@ ghost use Rattle.ltx_model.specs.Explained.{effect_of};
 ghost use Rattle.ltx_check.specs.Replays.{is_answering, is_answer, answered_number};
 ghost use Rattle.ltx_check.specs.Opens.{Desk, first_desk, seat_of, without_seat, begins, ends, desk_after, desk_after_reply, desk_after_in, is_misplaced, is_misplaced_in, is_open_fault, committed_number, IsWellPlaced, IsOpenFault};
 ghost use Rattle.ltx_check.specs.Found.{FindsOpenFault};
+ghost use Rattle.ltx_check.specs.Marks.{way_by, commit_at, commit_by};
 
 use crate::asked::{asked_by, gives};
+use crate::commits::{Commit, Way};
 use ltx_model::commands::{Command, Line, Verb};
 use ltx_model::memory::NoMemory;
 use ltx_model::numbers::{Session, Tx};
@@ -18,7 +20,7 @@ use std::marker::Model;
 
 /// An open transaction: its session, its number, and whether it is a short.
 #[derive(Clone, Copy, Debug)]
-pub(crate) struct Seat {
+pub struct Seat {
     pub session: Session,
     pub number: Tx,
     pub short: bool,
@@ -83,6 +85,30 @@ fn number_in(seat: Option<Seat>) -> Option<Tx>
         None => None,
         Some(seat) => Some(seat.number),
     }
+}
+
+/// How a reply commits a short, or a batch, if it does.
+fn way_by(short: bool, reply: &Reply) -> Option<Way>
+    ensures { result ≡ way_by short reply.now }
+{
+    match reply {
+        Reply::Committed { .. } => Some(if short { Way::Short } else { Way::Home }),
+        Reply::CommittedBefore { .. } => Some(Way::Forwarded),
+        _ => None,
+    }
+}
+
+/// What a reply commits, where its entry stands at this place and its session has this seat.
+fn commit_at(place: usize, seat: Option<Seat>, reply: &Reply) -> Option<Commit>
+    ensures { result ≡ commit_at place seat reply.now }
+{
+    let seat = seat?;
+    let way = way_by(seat.short, reply)?;
+    Some(Commit {
+        number: seat.number,
+        way,
+        place,
+    })
 }
 
 /// Whether the reply answers the operation that the line asks.
@@ -187,6 +213,16 @@ impl Seats {
             }
             _ => None,
         }
+    }
+
+    /// The commit of an entry at a place.
+    pub fn commit_by(&self, place: usize, entry: &Entry) -> Option<Commit>
+        ensures { result ≡ commit_by place self.now entry.now }
+    {
+        let Some(session) = session_of(&entry.line) else {
+            return None;
+        };
+        commit_at(place, seat_of(&self.seats, session), &entry.reply)
     }
 
     /// The number of the transaction in which an entry is answered.

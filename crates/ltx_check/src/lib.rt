@@ -1,10 +1,12 @@
 //! Transcripts: what a run printed is read and checked, and nothing is taken on trust.
 #![tactic(auto)]
 
-mod asked;
+pub mod asked;
+mod commits;
 mod cuts;
-mod desk;
+pub mod desk;
 mod entries;
+mod marks;
 mod orders;
 mod parts;
 mod reading;
@@ -15,7 +17,7 @@ mod words;
 
 #[cfg(test)]
 mod tests {
-    use crate::verdict::{Fault, Verdict, check_form};
+    use crate::verdict::{Fault, Verdict, check};
     use std::test::Fail;
 
     #[test]
@@ -28,7 +30,7 @@ mod tests {
             b"1 long W=0 R=2 => begun 3 at 2\n1 commit => waiting 1\n1 commit => later\n1 commit => late 1 1 0 k 2\norder\ndurable 0\n",
         ];
         for text in whole {
-            assert_eq!(rt; check_form(alloc, text)?, Verdict::Yes);
+            assert_eq!(rt; check(alloc, text)?, Verdict::Yes);
         }
         let texts: [(&[u8], u64); 9] = [
             (b"", 1),
@@ -46,7 +48,7 @@ mod tests {
                 line,
                 fault: Fault::Text,
             };
-            assert_eq!(rt; check_form(alloc, text)?, no);
+            assert_eq!(rt; check(alloc, text)?, no);
         }
         let opens: [(&[u8], u64); 6] = [
             (
@@ -73,7 +75,7 @@ mod tests {
                 line,
                 fault: Fault::Open,
             };
-            assert_eq!(rt; check_form(alloc, text)?, no);
+            assert_eq!(rt; check(alloc, text)?, no);
         }
         let orders: [(&[u8], u64); 3] = [
             (b"order 1\ndurable 0\n", 1),
@@ -91,7 +93,7 @@ mod tests {
                 line,
                 fault: Fault::Order,
             };
-            assert_eq!(rt; check_form(alloc, text)?, no);
+            assert_eq!(rt; check(alloc, text)?, no);
         }
         Ok(())
     }
@@ -102,8 +104,18 @@ mod tests {
     #[test]
     fn replies_are_checked(rt: HostRuntime) -> Result<(), Fail> {
         let alloc = rt.alloc();
-        assert_eq!(rt; check_form(alloc, FORWARDED)?, Verdict::Yes);
-        let others: [(&[u8], u64, Fault); 4] = [
+        assert_eq!(rt; check(alloc, FORWARDED)?, Verdict::Yes);
+        let others: [(&[u8], u64, Fault); 6] = [
+            (
+                b"1 long W=0 R=2 => begun 1 at 2\n2 long W=1 => begun 2 at 2\nepoch => epoch 2\n1 get 2 z => none\n2 get 0 y => none\n1 put 0 y a => done\n2 put 1 x b => done\n2 commit => committed 2\n1 commit => committed 2\nepoch => epoch 3\nflush => durable 2\norder 2 1\ndurable 2\n",
+                8,
+                Fault::Marks,
+            ),
+            (
+                b"1 short => begun 1\n2 short => begun 2\n1 commit => committed 1\n2 commit => committed 1\norder 2 1\ndurable 0\n",
+                4,
+                Fault::Marks,
+            ),
             (
                 b"1 long W=0 R=2 => begun 1 at 2\n2 long W=1 => begun 2 at 2\nepoch => epoch 2\n1 get 2 z => none\n2 get 0 y => none\n1 put 0 y a => done\n2 put 1 x b => done\n2 commit => committed 2 before 1\n1 commit => committed 2\nepoch => epoch 3\nflush => durable 2\norder 1 2\ndurable 2\n",
                 5,
@@ -126,7 +138,7 @@ mod tests {
             ),
         ];
         for (text, line, fault) in others {
-            assert_eq!(rt; check_form(alloc, text)?, Verdict::No { line, fault });
+            assert_eq!(rt; check(alloc, text)?, Verdict::No { line, fault });
         }
         Ok(())
     }

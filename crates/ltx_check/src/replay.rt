@@ -17,7 +17,7 @@ use ltx_model::replies::{Entry, Reply};
 use std::alloc::Global;
 
 /// The least of two places, where there are any.
-fn least(a: Option<usize>, b: Option<usize>) -> Option<usize>
+pub(crate) fn least(a: Option<usize>, b: Option<usize>) -> Option<usize>
     ensures { result ≡ least_of a b }
 {
     match (a, b) {
@@ -28,7 +28,7 @@ fn least(a: Option<usize>, b: Option<usize>) -> Option<usize>
 }
 
 /// A place, where the reply is another one.
-fn unless(same: bool, place: usize) -> Option<usize>
+pub(crate) fn unless(same: bool, place: usize) -> Option<usize>
     ensures { result ≡ unless same place }
 {
     if same { None } else { Some(place) }

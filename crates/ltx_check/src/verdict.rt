@@ -1,13 +1,15 @@
 //! The verdict on a transcript.
 
-ghost use Rattle.std.specs.Prelude.{◌≡◌, ℕ, List, IfOk};
+ghost use Rattle.std.specs.Prelude.{◌≡◌, ℕ, List, [], IfOk};
 ghost use Rattle.ltx_check.specs.declared.verdict.Verdict.{Verdict};
 ghost use Rattle.ltx_check.specs.Lines.{Says};
 ghost use Rattle.ltx_check.specs.Opens.{IsWellPlaced};
 ghost use Rattle.ltx_check.specs.Orders.{HasCommitted};
+ghost use Rattle.ltx_check.specs.Replays.{RunPlays};
 ghost use Rattle.ltx_check.specs.Verdicts.{IsVerdict};
 
 use crate::desk::first_open_fault;
+use crate::marks::first_out_of_place;
 use crate::orders::{committed_numbers, has_all};
 use crate::reading::{Reading, Transcript, read_transcript};
 use crate::replay::first_other_reply;
@@ -27,6 +29,9 @@ pub enum Fault {
     /// The entry is of a committed transaction, and gets another reply when these run one at a time, in the printed order, from the
     /// empty map.
     Replay,
+    /// The entry commits a short that stands in the order before something committed earlier; or it commits a batch, without a target,
+    /// that stands before a committed batch with a smaller number.
+    Marks,
 }
 
 /// The verdict on a transcript. Lines count from 1; a line that is missing has the number after the last.
@@ -36,7 +41,24 @@ pub enum Verdict {
     No { line: u64, fault: Fault },
 }
 
-/// Whether the order explains the replies.
+/// Whether commits stand where they may in the order, which explains the replies.
+fn check_marks(alloc: Global, transcript: &Transcript) -> Result<Verdict, NoMemory>
+    requires placed { IsWellPlaced transcript.now.entries.items }
+    requires members { HasCommitted transcript.now.entries.items transcript.now.order.items }
+    requires plays { RunPlays transcript.now.entries.items [] transcript.now.order.items }
+    ensures { IfOk result (λ verdict. (text : List ℕ) → Says text transcript.now.entries.items transcript.now.order.items transcript.now.durable → IsVerdict text verdict) }
+{
+    match first_out_of_place(alloc, &transcript.entries, &transcript.order) {
+        Err(fault) => Err(fault),
+        Ok(None) => Ok(Verdict::Yes),
+        Ok(Some(place)) => Ok(Verdict::No {
+            line: place as u64 + 1,
+            fault: Fault::Marks,
+        }),
+    }
+}
+
+/// Whether the order explains the replies, and has commits where they may stand.
 fn check_replies(alloc: Global, transcript: &Transcript) -> Result<Verdict, NoMemory>
     requires placed { IsWellPlaced transcript.now.entries.items }
     requires members { HasCommitted transcript.now.entries.items transcript.now.order.items }
@@ -44,7 +66,7 @@ fn check_replies(alloc: Global, transcript: &Transcript) -> Result<Verdict, NoMe
 {
     match first_other_reply(alloc, &transcript.entries, &transcript.order) {
         Err(fault) => Err(fault),
-        Ok(None) => Ok(Verdict::Yes),
+        Ok(None) => check_marks(alloc, transcript),
         Ok(Some(place)) => Ok(Verdict::No {
             line: place as u64 + 1,
             fault: Fault::Replay,
@@ -82,11 +104,9 @@ fn check_entries(alloc: Global, transcript: &Transcript) -> Result<Verdict, NoMe
     }
 }
 
-/// What the text says is a history, an order and a durable epoch, each entry may stand where it does, and the order has the
-/// committed transactions, each once, and explains their replies; or else the first fault. Where commits stand in the order
-/// beside their times and their numbers is not checked yet.
-pub fn check_form(alloc: Global, text: &[u8]) -> Result<Verdict, NoMemory>
-    ensures verdict { IfOk result (λ verdict. IsVerdict text.now verdict) }
+/// The verdict on a text.
+fn verdict_on(alloc: Global, text: &[u8]) -> Result<Verdict, NoMemory>
+    ensures { IfOk result (λ verdict. IsVerdict text.now verdict) }
 {
     match read_transcript(alloc, text) {
         Err(fault) => Err(fault),
@@ -96,6 +116,17 @@ pub fn check_form(alloc: Global, text: &[u8]) -> Result<Verdict, NoMemory>
         }),
         Ok(Reading::Whole(transcript)) => check_entries(alloc, &transcript),
     }
+}
+
+/// Yes exactly where the text is a transcript that its order explains: it says a history, an order and a durable epoch, each entry may
+/// stand where it does, the order has the committed transactions, each once, it explains their replies, and each commit stands in it
+/// where it may. Else the first fault: of the kinds that apply, the first, at its first line. Nothing is said of epochs, of refusals or
+/// of what is durable. A line answered `later` has no effect.
+pub fn check(alloc: Global, text: &[u8]) -> Result<Verdict, NoMemory>
+    ensures verdict { IfOk result (λ verdict. IsVerdict text.now verdict) }
+    ensures only { IfOk result (λ verdict. (other : Verdict) → IsVerdict text.now other → other ≡ verdict) }
+{
+    verdict_on(alloc, text)
 }
 
 /// A text has one verdict: so it is answered Yes exactly where that holds, and each fault exactly where it is the first.

@@ -1,7 +1,9 @@
 pub mod Lines
+pub mod Unflushed
 pub mod Printable
 pub mod OneWord
 pub mod SparedTables
 pub mod PromisesKept
 pub mod Steps
 pub mod Results
+pub mod Taken

@@ -8,10 +8,10 @@ use Rattle.ltx_model.specs.declared.replies.Reply.TheVariants as replies
 use Rattle.ltx_model.specs.States.{Base, State}
 use Rattle.ltx_model.specs.Histories.{after, state}
 use Rattle.ltx_model.specs.Answers.{answer, staged}
-use Rattle.ltx_core.specs.Built.{built}
+use Rattle.ltx_top.specs.Built.{built}
 use Rattle.ltx_core.specs.Views.{CoreView}
 use Rattle.ltx_core.specs.Stands.{StandsFor}
-use Rattle.ltx_core.proofs.StandsStill.{quiet}
+use Rattle.ltx_core.proofs.LogSteps.{quiet}
 
 bad_reply : (s : State) (cause : Bad) → staged built s (lines.Bad cause) ≡ replies.Bad cause
 unfolding answer

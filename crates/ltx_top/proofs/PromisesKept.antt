@@ -7,7 +7,7 @@ use Rattle.ltx_model.specs.States.{transaction_of, Base, IsSound, first_state, o
 use Rattle.ltx_model.specs.Histories.{state}
 use Rattle.ltx_model.specs.Answers.{IsLegalWith}
 use Rattle.ltx_model.proofs.OneMore.{legal-parts}
-use Rattle.ltx_core.specs.Built.{built}
+use Rattle.ltx_top.specs.Built.{built}
 use Rattle.ltx_laws.specs.Commits.{StandsJustBefore}
 use Rattle.ltx_laws.specs.Orders.{StandsBefore}
 use Rattle.ltx_laws.specs.Printed.{IsPrintedBatchAt, IsPrintedShort}

@@ -5,7 +5,7 @@ use Rattle.ltx_model.specs.Operations.{Transaction, operations, touches}
 use Rattle.ltx_model.specs.States.{IsShort, Base, IsSound}
 use Rattle.ltx_model.specs.Histories.{state}
 use Rattle.ltx_model.specs.Answers.{IsLegalWith}
-use Rattle.ltx_core.specs.Built.{built}
+use Rattle.ltx_top.specs.Built.{built}
 use Rattle.ltx_laws.specs.Printed.{IsPrintedShort}
 use Rattle.ltx_laws.proofs.AnsweredShorts.{held_answered}
 use Rattle.ltx_laws.proofs.Preserved.{short_touches_none}

@@ -17,7 +17,7 @@ use Rattle.ltx_model.specs.Answers.{IsLegalWith, staged}
 use Rattle.ltx_model.specs.Explained.{IsExplained}
 use Rattle.ltx_model.specs.Recovery.{blank_base}
 use Rattle.ltx_model.proofs.OneMore.{legal-none, legal-push}
-use Rattle.ltx_core.specs.Built.{built}
+use Rattle.ltx_top.specs.Built.{built}
 use Rattle.ltx_core.specs.Views.{CoreView}
 use Rattle.ltx_core.specs.Stands.{StandsFor}
 use Rattle.ltx_laws.proofs.ExplainedHistories.{explained}

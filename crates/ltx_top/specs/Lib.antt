@@ -1,3 +1,4 @@
+pub mod Built
 pub mod Transcripts
 pub mod SerialOrder
 pub mod DeclaredOrder
@@ -10,3 +11,4 @@ pub mod Endings
 pub mod Progress
 pub mod Hands
 pub mod Spellings
+pub mod Judged

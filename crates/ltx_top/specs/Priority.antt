@@ -5,7 +5,7 @@ use Rattle.ltx_model.specs.Operations.{Transaction}
 use Rattle.ltx_model.specs.States.{Active, Base, Declaration, IsLive}
 use Rattle.ltx_model.specs.Histories.{state}
 use Rattle.ltx_model.specs.Batches.{Overtakes}
-use Rattle.ltx_core.specs.Built.{built}
+use Rattle.ltx_top.specs.Built.{built}
 use Rattle.ltx_laws.specs.Priority.{AsksCommit, IsCommittedAtHome, WasLeast, batch_of}
 
 -- At each entry of a history that asks to commit a live batch: one that overtakes nobody, and one that was the least live batch when it

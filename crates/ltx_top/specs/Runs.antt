@@ -9,7 +9,7 @@ use Rattle.ltx_model.specs.States.{Base, order}
 use Rattle.ltx_model.specs.Histories.{state}
 use Rattle.ltx_model.specs.Answers.{IsLegalWith}
 use Rattle.ltx_model.specs.Explained.{IsExplained}
-use Rattle.ltx_core.specs.Built.{built}
+use Rattle.ltx_top.specs.Built.{built}
 use Rattle.ltx_outside.specs.Reads.{Reads}
 use Rattle.ltx_text.specs.Lines.{feeds}
 use Rattle.ltx_top.specs.Promises.{KeepsPromises}

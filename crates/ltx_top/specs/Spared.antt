@@ -7,7 +7,7 @@ use Rattle.ltx_model.specs.States.{IsShort, Active, transaction_of, Base, LiveBa
 use Rattle.ltx_model.specs.Histories.{state}
 use Rattle.ltx_model.specs.Explained.{committed_by, opens_from}
 use Rattle.ltx_model.specs.Shorts.{IsLeastHeld, holds}
-use Rattle.ltx_core.specs.Built.{built}
+use Rattle.ltx_top.specs.Built.{built}
 use Rattle.ltx_laws.specs.Answered.{IsAnswered}
 use Rattle.ltx_laws.specs.Printed.{IsPrintedShort}
 use Rattle.ltx_laws.specs.Priority.{AsksCommit}

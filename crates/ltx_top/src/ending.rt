@@ -8,7 +8,7 @@ use ltx_model::numbers::Tx;
 use ltx_text::decimals::put_decimal;
 
 /// Appends a space and a number.
-fn put_number(n: u64, out: &mut Vec<u8>) -> Result<(), NoMemory>
+pub(crate) fn put_number(n: u64, out: &mut Vec<u8>) -> Result<(), NoMemory>
     ensures ok { OnOk result (out.new.items ≡ out.old.items ++ spaced_number n) }
     ensures front { take (length out.old.items) out.new.items ≡ out.old.items }
 {

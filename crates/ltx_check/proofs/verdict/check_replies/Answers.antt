@@ -1,10 +1,7 @@
 use Rattle.std.proofs.Common.{[], Some, arith, rules, refl}
 use Rattle.ltx_check.specs.Replays.{Finds, RunPlays, RunDiffers}
-use Rattle.ltx_check.proofs.Judging.{judged_yes, judged_other, run_low}
+use Rattle.ltx_check.proofs.Judging.{judged_other, run_low}
 use Rattle.ltx_check.proofs.verdict.check_replies.Goals as goal
-
-pub returns-in-Ok-None : goal.returns-in-Ok-None
-returns-in-Ok-None c = judged_yes c.requires.placed c.requires.members (search rules)
 
 pub returns-in-Ok-Some : goal.returns-in-Ok-Some
 returns-in-Ok-Some c = judged_other c.requires.placed c.requires.members c.in-Ok-Some.place _ refl (search rules)

@@ -1,6 +1,6 @@
 use Rattle.std.proofs.Common.{sym, subst}
 use Rattle.ltx_model.specs.declared.replies.Reply.{Reply}
-use Rattle.ltx_core.specs.Built.{built}
+use Rattle.ltx_top.specs.Built.{built}
 use Rattle.ltx_reply.specs.Texts.{IsReply}
 use Rattle.ltx_top.proofs.Printable.{answers_print}
 use Rattle.ltx_top.proofs.serving.serve.Goals as goal
