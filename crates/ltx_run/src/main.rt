@@ -1,21 +1,20 @@
-//! The program: the words of its command line say what is done, the script comes from standard input, and the text goes to
-//! standard output.
+//! The program: the words of its command line say what is done, the script or the transcript comes from standard input, and the text
+//! goes to standard output.
 #![tactic(auto)]
 
-mod devices;
 mod pages;
 
-use crate::devices::{StdinSource, StdoutSink};
 use crate::pages::page_for;
+use ltx_files::{StdinSource, StdoutSink};
 use ltx_model::memory::NoMemory;
 use ltx_outside::MemDisk;
-use ltx_top::{Status, run};
+use ltx_top::{Status, run, run_check};
 use std::io::ErrorKind;
 use std::process::ExitCode;
 use std::{env, io};
 
 /// What is printed on standard error where the words are no command.
-const USAGE: &str = "usage: ltx_run run | recover | threads N | drive START COUNT";
+const USAGE: &str = "usage: ltx_run run | recover | threads N | drive START COUNT | check";
 
 /// The words of the command line, without the program's name.
 fn words_of(rt: &HostRuntime) -> io::Result<Vec<String>> {
@@ -39,6 +38,11 @@ fn carry_out(rt: &HostRuntime, words: &[String]) -> Result<Status, NoMemory> {
     let alloc = rt.alloc();
     let mut source = StdinSource::new(rt);
     let mut sink = StdoutSink::new(rt);
+    // Words that are another command leave both as they are.
+    let checked = run_check(alloc, words, &mut source, &mut sink);
+    if checked.number != 2 {
+        return Ok(checked);
+    }
     let mut disk = MemDisk::new(Vec::new(alloc), 0, Vec::new(alloc))?;
     Ok(run(alloc, words, &mut source, &mut disk, &mut sink))
 }

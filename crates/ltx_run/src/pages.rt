@@ -1,8 +1,12 @@
 //! The pages that the program prints in place of a run: the help and the version.
 
 /// The commands of a script, the words and the statuses.
-const HELP: &str = "usage: ltx_run run
+const HELP: &str = "usage: ltx_run run | check
        ltx_run --help | --version
+
+`check` reads on standard input what a run printed, from this engine or another, and trusts nobody: it prints `yes` where
+the printed order explains the transcript, or else `no LINE FAULT` with the first fault, which is text, open, order,
+replay or marks.
 
 `run` answers the script on standard input, a command a line: it prints each line with its reply, and at the end the
 serial order of the committed transactions and the durable epoch.
@@ -27,7 +31,8 @@ Words are joined by single spaces. In a word a byte from 33 to 126 other than % 
 %HH with two upper-case hexadecimal digits, and the empty string is %. A SET is *, -, or numbers such as 0,7,63.
 
 Status: 0 all went well; 1 some reply is `bad`; 2 no such command; 3 no memory; 4 standard input failed; 5 standard
-output failed; 9 the script has more than 4294967295 bytes.
+output failed; 9 the script has more than 4294967295 bytes, or the transcript more than 268435456; 11 the transcript
+has a fault.
 ";
 
 /// The version, and what the program was proved with.
