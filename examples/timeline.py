@@ -5,7 +5,8 @@ usage: timeline.py [FROM TO]
 
 Standard input is what `ltx_run run` printed, standard output the picture, 1,200 pixels wide; the lines FROM to TO alone
 where they are given. At most 400 lines are drawn, 80 beside each other. Each entry is one step to the right in the lane
-of its session; each mark has its line as a hover title. Under the lanes stand the commits in time and in serial order.
+of its session; each mark has its line as a hover title. Under the lanes stand the commits in time and in serial order,
+and under these an arrow from each forwarded batch to its target.
 Status 1, with a sentence on standard error: the input is not what a run prints, or too long to be drawn.
 """
 import html
@@ -16,6 +17,7 @@ from dataclasses import dataclass, field
 
 MOST, ABREAST = 400, 80
 WIDTH, LEFT, RIGHT = 1200, 104, 1184
+WIDEST, ROOMY = 44, 28  # a step to the right at most, and one that has room for the number of each line
 SIZE, LETTER, ROW = 11, 6.9, 14  # of a text: its height, the width of a letter in any usual font, and of a row of labels
 UNDER = 24  # the space from a bar's middle to the next lane, where arrows run
 UNDER_COMMITS = 3 * ROW  # from the row of commits to that of the order
@@ -68,12 +70,12 @@ SHAPES = {
     "other": ("read", "M0-5L5 4H-5z"),
     "control": ("write", CIRCLE.format(2.5, 5)),
 }
-LEGEND = [
-    ("get", "get"), ("scan", "scan"), ("put", "put"), ("del", "del"), ("committed", "committed"),
-    ("refused", "refused, arrow to the witness"), ("aborted", "aborted"), ("waiting", "commit waits, arrow to whom"),
-    ("other", "answered without effect"),
-]
-BARS = [("short", "short"), ("pending", "batch before its epoch"), ("live", "live batch")]
+LEGEND = {
+    "short": "short", "pending": "batch before its epoch", "live": "live batch", "get": "get", "scan": "scan", "put": "put",
+    "del": "del", "committed": "committed", "forwarded": "forwarded, to its target", "refused": "refused, arrow to the witness",
+    "waiting": "commit waits, arrow to whom", "aborted": "aborted", "other": "answered without effect",
+}
+BARS = ("short", "pending", "live")
 
 COLOURS = {  # on a light ground, and on a dark one
     "paper": ("#ffffff", "#14171b"), "ink": ("#1b1f24", "#e8eaed"), "faint": ("#5b6470", "#a3acb8"),
@@ -114,10 +116,14 @@ class Transaction:
     live: int | None = None
     end: int | None = None
     how: str = "still open"
+    target: int | None = None  # of a forwarded batch
 
     @property
     def title(self):
         return f"{'batch' if self.declared else 'short'} {self.number} {self.declared} {self.how}".replace("  ", " ")
+
+    def is_open_in(self, first, last):
+        return self.begin <= last and (self.end is None or self.end >= first)
 
 
 @dataclass
@@ -204,6 +210,8 @@ def end(run, entry):
     transaction.end, transaction.how = entry.place, cut(entry.reply, 200)
     if entry.kind in COMMITS:
         run.commits.append(transaction.number)
+    if entry.kind == "before":
+        transaction.target = entry.numbers[-1]
     del run.open[entry.session]
 
 
@@ -271,6 +279,9 @@ class Label:
     def __post_init__(self):
         self.x = max(LEFT, min(self.x, RIGHT - width(self.text)))
 
+    def meets(self, columns):
+        return any(self.x - 2 < x < self.x + width(self.text) + 2 for x in columns)
+
 
 @dataclass
 class Stave:
@@ -281,14 +292,12 @@ class Stave:
     top: float = 0
     bottom: float = 0
     open: list = field(default_factory=list)  # who was open in it
+    arrows: list = field(default_factory=list)  # of its entries
     lanes: dict = field(default_factory=dict)  # the height of a session's bars
     labels: dict = field(default_factory=dict)  # a session's
 
     def x(self, place):
         return LEFT + (place - self.first + 0.5) * self.step
-
-    def meets(self, transaction):
-        return transaction.begin <= self.last and (transaction.end is None or transaction.end >= self.first)
 
 
 def width(text):
@@ -305,18 +314,32 @@ def stack(labels):
     return len(ends)
 
 
-def label_of(entry, x):
-    """What is written over a mark, where it says more than its shape."""
+def label_of(entry, x, columns):
+    """What is written over a mark, where it says more than its shape; at the right, unless arrows run there alone."""
     if entry.session == 0:
         return Label(x - 4, entry.reply, "epoch" if entry.kind == "epoch" else "number", entry.title)
-    if entry.kind in ARROWS:
-        named = entry.numbers[-1]
-        return Label(x + 5, f"{entry.kind} {'none' if named is None else named}", ARROWS[entry.kind], entry.title)
-    return None
+    if entry.kind not in ARROWS:
+        return None
+    named = entry.numbers[-1]
+    text = f"{entry.kind} {'none' if named is None else named}"
+    right, left = (Label(start, text, ARROWS[entry.kind], entry.title) for start in (x + 5, x - 5 - width(text)))
+    return left if right.meets(columns) and not left.meets(columns) else right
+
+
+def columns_over(run, stave, session):
+    """Where arrows of the stave's entries run through the labels of a session."""
+    columns = []
+    for arrow in stave.arrows:
+        other = run.all[arrow.to]
+        leaves = other.end is not None and other.end < stave.first
+        ends = (0 if leaves else other.session, arrow.session)
+        if min(ends) < session <= max(ends):
+            columns.append(stave.x(arrow.place))
+    return columns
 
 
 def labels_of(run, stave, session):
-    labels = []
+    labels, columns = [], columns_over(run, stave, session)
     for transaction in stave.open:
         if transaction.session == session:
             text = cut(f"{transaction.number} {transaction.declared}".strip(), 40)
@@ -324,7 +347,7 @@ def labels_of(run, stave, session):
             labels.append(Label(x, text, "number", transaction.title))
     for entry in run.entries[stave.first:stave.last + 1]:
         if entry.session == session:
-            labels.append(label_of(entry, stave.x(entry.place)))
+            labels.append(label_of(entry, stave.x(entry.place), columns))
     return [label for label in labels if label]
 
 
@@ -334,7 +357,8 @@ def sessions_of(run, stave, extra):
 
 
 def lay_stave(run, stave, extra):
-    stave.open = [transaction for transaction in run.all.values() if stave.meets(transaction)]
+    stave.open = [transaction for transaction in run.all.values() if transaction.is_open_in(stave.first, stave.last)]
+    stave.arrows = [arrow for arrow in run.arrows if stave.first <= arrow.place <= stave.last]
     y = stave.top + 2 * ROW
     for session in sessions_of(run, stave, extra):
         stave.labels[session] = labels_of(run, stave, session)
@@ -355,7 +379,7 @@ def lay(run, first, last, top):
     staves, count = [], last - first + 1
     abreast = math.ceil(count / max(1, math.ceil(count / ABREAST)))
     for start in range(first, last + 1, abreast or 1):
-        stave = Stave(start, min(start + abreast - 1, last), min(30, (RIGHT - LEFT) / abreast), top)
+        stave = Stave(start, min(start + abreast - 1, last), min(WIDEST, (RIGHT - LEFT) / abreast), top)
         lay_stave(run, stave, ended_before(run, first, last) if start == first else set())
         staves.append(stave)
         top = stave.bottom + ROW
@@ -418,9 +442,11 @@ def shape_of(entry):
     return "control" if entry.kind in ("durable", "pruned") else "other"
 
 
+def is_marked(entry):
+    return not (entry.kind in ("begun", "declared") or entry.advances)
+
+
 def draw_entry(entry, stave):
-    if entry.kind in ("begun", "declared") or entry.advances:
-        return ""
     return mark(shape_of(entry), stave.x(entry.place), stave.lanes[entry.session], entry.title)
 
 
@@ -448,7 +474,7 @@ def draw_names(stave):
         yield write(LEFT - 12, y + 4, f"session {session}" if session else "control", anchor="end")
     yield write(LEFT - 12, stave.top + ROW, "line", "faint", anchor="end")
     for place in range(stave.first, stave.last + 1):
-        if place == stave.first or (place % 5 == 4 and place > stave.first + 2):
+        if stave.step >= ROOMY or place == stave.first or (place % 5 == 4 and place > stave.first + 2):
             yield write(stave.x(place), stave.top + ROW, str(place + 1), "faint", anchor="middle")
 
 
@@ -461,7 +487,8 @@ def draw_labels(stave):
 def draw_stave(run, stave):
     entries = run.entries[stave.first:stave.last + 1]
     bars = [part for transaction in stave.open for part in draw_bars(transaction, stave)]
-    return [*draw_bands(stave), *draw_epochs(entries, stave), *bars, *(draw_entry(entry, stave) for entry in entries)]
+    marks = [draw_entry(entry, stave) for entry in entries if is_marked(entry)]
+    return [*draw_bands(stave), *draw_epochs(entries, stave), *bars, *marks]
 
 
 def stave_of(staves, place):
@@ -523,13 +550,38 @@ def draw_member(run, number, spot, ahead):
     return box + write(x, y, str(number), "number", run.all[number].title, anchor="middle")
 
 
+def draw_forwarded(run, under):
+    """Under the order, an arrow to each target from the batches that were put before it, where they stand in one row."""
+    spans = {}
+    for number, (x, y) in under.items():
+        target = run.all[number].target
+        if target in under and under[target][1] == y:
+            spans.setdefault(target, []).append(x)
+    levels = {}
+    for target in sorted(spans, key=lambda target: under[target][0] - min(spans[target])):
+        (to_x, y), start = under[target], min(spans[target])
+        within = [levels[other] for other in levels if under[other][1] == y and start < under[other][0] <= to_x]
+        levels[target] = max(within, default=-1) + 1
+        level = y + 11 + 4 * (levels[target] % 3)
+        stems = "".join(f"M{spelled(x)} {y + 7}V{level}" for x in spans[target])
+        path = f"{stems}M{spelled(start)} {level}H{spelled(to_x - 3)}V{y + 6}"
+        yield tag("path", class_="arrow forwarded", d=path, marker_end="url(#forwarded)")
+
+
+def words_on_order(shown, boxed, forwarded):
+    words = "The commits in time, and in serial order" if shown else "No commits"
+    words += "; boxed: it stands before one that committed earlier" if boxed else ""
+    return words + ("; arrow under it: forwarded, to its target" if forwarded else "")
+
+
 def draw_order(run, first, last, top):
     """The commits of these entries in time, and under them in serial order, each joined with itself; the parts and the height."""
     shown = [number for number in run.commits if first <= run.all[number].end <= last]
     within, ahead = set(shown), moved(run)
     order = [number for number in run.order if number in within]
-    cell = max([width(str(number)) + 16 for number in shown], default=1)
-    beside = int((RIGHT - LEFT) // cell)
+    widest = max([width(str(number)) for number in shown], default=1)
+    cell = max(widest + 16, min(widest + 30, (RIGHT - LEFT) / max(1, len(shown))))
+    beside = int((RIGHT - LEFT) / cell + 0.01)
     spots = [(LEFT + (index % beside + 0.5) * cell, top + 3 * ROW + index // beside * 2 * UNDER_COMMITS) for index in range(len(shown))]
     under = {number: (x, y + UNDER_COMMITS) for number, (x, y) in zip(order, spots)}
     links, texts = [], []
@@ -540,19 +592,42 @@ def draw_order(run, first, last, top):
         texts.append(draw_member(run, number, under[number], number in ahead))
     for y in sorted({y for _, y in spots}):
         texts += [write(LEFT - 12, y, "commits", anchor="end"), write(LEFT - 12, y + UNDER_COMMITS, "order", anchor="end")]
-    words = "The commits in time, and in serial order; boxed: it stands before one that committed earlier" if shown else "No commits"
-    return [*links, write(LEFT, top + ROW, words, "faint"), *texts], max([y for _, y in spots], default=top) + 5 * ROW
+    forwarded = list(draw_forwarded(run, under))
+    words = words_on_order(shown, within & ahead, forwarded)
+    return [*links, *forwarded, write(LEFT, top + ROW, words, "faint"), *texts], max([y for _, y in spots], default=top) + 5 * ROW
 
 
-def draw_legend(top):
-    x, y = LEFT, top
-    for kind, words in [*LEGEND, *BARS]:
-        wide = (36 if (kind, words) in BARS else 14) + width(words) + 14
-        if x + wide > RIGHT:
+def sample(kind, x, y):
+    if kind in BARS:
+        return bar(kind, x, x + 26, y)
+    if kind == "forwarded":
+        return tag("path", class_="arrow forwarded", d=f"M{spelled(x)} {y}h26", marker_end="url(#forwarded)")
+    return mark(kind, x + 6, y)
+
+
+def kinds_of(run, first, last):
+    """What of the legend is drawn."""
+    found = {shape_of(entry) for entry in run.entries[first:last + 1] if is_marked(entry)}
+    for transaction in run.all.values():
+        if transaction.is_open_in(first, last):
+            found.update(("pending", "live") if transaction.declared else ("short",))
+        if transaction.target and first <= transaction.end <= last:
+            found.add("forwarded")
+    return found
+
+
+def draw_legend(found, top):
+    """Its parts, and the place of its last row."""
+    parts, x, y = [], LEFT, top
+    for kind, words in LEGEND.items():
+        if kind not in found:
+            continue
+        aside = 34 if kind in BARS or kind == "forwarded" else 18
+        if x + aside + width(words) > RIGHT:
             x, y = LEFT, y + 20
-        yield bar(kind, x, x + 26, y - 4) if (kind, words) in BARS else mark(kind, x + 6, y - 4)
-        yield write(x + wide - width(words) - 12, y, words, "faint")
-        x += wide + 6
+        parts += [sample(kind, x, y - 4), write(x + aside, y, words, "faint")]
+        x += aside + width(words) + 14
+    return parts, y
 
 
 def rules(ground):
@@ -592,12 +667,13 @@ def heads():
 def draw(run, first, last):
     lines = f"lines {first + 1} to {last + 1} of {len(run.entries)}" if run.entries else "no lines"
     words = f"{lines}; {len(run.commits)} of {len(run.all)} transactions committed; durable through epoch {run.durable}"
-    staves = lay(run, first, last, 92)
+    legend, top = draw_legend(kinds_of(run, first, last), 48)
+    staves = lay(run, first, last, top + 24)
     arrows = [draw_arrow(run, arrow, staves) for arrow in run.arrows if first <= arrow.place <= last]
-    order, height = draw_order(run, first, last, staves[-1].bottom + ROW if staves else 92)
+    order, height = draw_order(run, first, last, staves[-1].bottom + ROW if staves else top)
     parts = [
         tag("title", html.escape(f"A run: {words}")), style(), tag("defs", "".join(heads())),
-        tag("rect", class_="paper", width=WIDTH, height=height), write(LEFT, 24, words, "number"), *draw_legend(48),
+        tag("rect", class_="paper", width=WIDTH, height=height), write(LEFT, 24, words, "number"), *legend,
         *(part for stave in staves for part in draw_stave(run, stave)), *arrows,
         *(part for stave in staves for part in (*draw_names(stave), *draw_labels(stave))), *order,
     ]

@@ -7,10 +7,12 @@ mod examples;
 mod known;
 #[cfg(test)]
 mod limits;
+#[cfg(test)]
+mod transcripts;
 
 #[cfg(test)]
 mod tests {
-    use crate::examples::{CONFLICT, FORWARDED, ORDERS, PHANTOM, REFUSED, SUM};
+    use crate::examples::{CONFLICT, FORWARDED, ORDERS, PHANTOM, PRESERVED, REFUSED, SUM, TAKINGS};
     use crate::known::{
         A_BATCH_BEFORE_ITS_ELDER, A_BATCH_BEFORE_ITS_EPOCH, A_BATCH_BEFORE_ONE_THAT_IS_REFUSED,
         A_BATCH_GIVES_UP, A_BATCH_OUTSIDE_WHAT_IT_DECLARED, A_BATCH_THAT_SAW_TOO_MUCH,
@@ -24,6 +26,7 @@ mod tests {
         ACCOUNTS, FULL_LINES, IN_ONE_SESSION, Limit, OPERATIONS, Part, SESSIONS, SHUFFLED,
         TRANSFERS, WRITES,
     };
+    use crate::transcripts::{EXPLAINED, FORGOTTEN, UNEXPLAINED, UNFORWARDED};
     use ltx_core::Core;
     use ltx_model::base::Recovered;
     use ltx_model::commands::{Command, Verb};
@@ -33,7 +36,7 @@ mod tests {
     use ltx_model::tables::TableSet;
     use ltx_outside::{Disk, Failed, MemDisk, MemSink, MemSource, Sink, Source};
     use ltx_text::decimals::put_decimal;
-    use ltx_top::run;
+    use ltx_top::{run, run_check};
     use std::alloc::Global;
     use std::test::Fail;
 
@@ -71,6 +74,25 @@ mod tests {
         sink: &mut K,
     ) -> u8 {
         run(alloc, words, source, disk, sink).number
+    }
+
+    /// The status of the check of a transcript, proved from the bounds alone.
+    fn call_check<S: Source, K: Sink>(
+        alloc: Global,
+        words: &[String],
+        source: &mut S,
+        sink: &mut K,
+    ) -> u8 {
+        run_check(alloc, words, source, sink).number
+    }
+
+    /// Whether the check of a transcript ends with this status and prints this verdict.
+    fn is_judged(alloc: Global, text: &[u8], status: u8, verdict: &[u8]) -> Result<bool, Fail> {
+        let words = vec![in alloc; String::from_str(alloc, "check")?]?;
+        let mut source = MemSource::new(Vec::from_slice(alloc, text)?, Vec::new(alloc));
+        let mut sink = MemSink::new(alloc, 100, Vec::new(alloc))?;
+        let given = call_check(alloc, &words, &mut source, &mut sink);
+        Ok(given == status && sink.written() == verdict)
     }
 
     /// What a call of the top gave: the status, what is printed, and the source as it is left.
@@ -225,6 +247,13 @@ mod tests {
         are_printed(alloc, EXAMPLES_OF_BATCHES)
     }
 
+    const EXAMPLES_OF_HOLDING: &[Known] = &[(TAKINGS, " 1 2 3 4 5 6"), (PRESERVED, " 1 2 4 6")];
+
+    /// Whether the examples of what a batch keeps shorts from, and of what it does not, are printed.
+    fn prints_examples_of_holding(alloc: Global) -> Result<bool, Fail> {
+        are_printed(alloc, EXAMPLES_OF_HOLDING)
+    }
+
     /// Whether bad lines between good ones have their causes, and a line that is too long, which is the second one, so that in
     /// one of the runs it is held whole.
     fn prints_bad_lines(alloc: Global) -> Result<bool, Fail> {
@@ -252,6 +281,28 @@ mod tests {
         )
     }
 
+    /// A transcript, the status of its check, and what is printed.
+    type Judged = (&'static [u8], u8, &'static [u8]);
+
+    const TRANSCRIPTS: [Judged; 6] = [
+        (EXPLAINED, 0, b"yes\n"),
+        (b"", 11, b"no 1 text\n"),
+        (b"1 get 0 x => none\norder\ndurable 0\n", 11, b"no 1 open\n"),
+        (UNEXPLAINED, 11, b"no 5 replay\n"),
+        (FORGOTTEN, 11, b"no 8 order\n"),
+        (UNFORWARDED, 11, b"no 7 marks\n"),
+    ];
+
+    /// Whether the check of each transcript ends at its status and prints its verdict.
+    fn judges_transcripts(alloc: Global) -> Result<bool, Fail> {
+        for (text, status, verdict) in TRANSCRIPTS {
+            if !is_judged(alloc, text, status, verdict)? {
+                return Ok(false);
+            }
+        }
+        Ok(true)
+    }
+
     #[test]
     fn scripts_are_printed_with_their_replies(rt: HostRuntime) -> Result<(), Fail> {
         let alloc = rt.alloc();
@@ -261,7 +312,9 @@ mod tests {
         assert!(rt; prints_forwarding(alloc)?);
         assert!(rt; prints_examples_of_shorts(alloc)?);
         assert!(rt; prints_examples_of_batches(alloc)?);
+        assert!(rt; prints_examples_of_holding(alloc)?);
         assert!(rt; prints_bad_lines(alloc)?);
+        assert!(rt; judges_transcripts(alloc)?);
         Ok(())
     }
 
