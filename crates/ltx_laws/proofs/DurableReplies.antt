@@ -146,7 +146,7 @@ module _ (s : State) where
     by_test false = tt
 
   -- after that entry the durable epoch is the printed one
-  durable_then : (built : State → Line → Bool) (entry : Entry) (d : ℕ) → s.durable < s.epoch → entry.reply ≡ staged built s entry.line → entry.reply ≡ replies.Durable d → (after s entry).durable ≡ d
+  pub durable_then : (built : State → Line → Bool) (entry : Entry) (d : ℕ) → s.durable < s.epoch → entry.reply ≡ staged built s entry.line → entry.reply ≡ replies.Durable d → (after s entry).durable ≡ d
   durable_then built entry d ahead is printed =
       ap (λ (x : State). x.durable) (after-is s entry.line entry.reply ∙ ap (reply_changes s entry.line) printed)
       ∙ by_test (nat_lt s.durable d) refl (subst Tells (sym is ∙ printed) (staged_tells built entry.line)) where
@@ -162,7 +162,7 @@ durable_grows s after g ahead = by_which g.durable where
   by_which (inl same) = let h : s.durable ≤ after.durable = omega arith in h
   by_which (inr (last, moves)) = let h : s.durable ≤ after.durable = omega arith in h
 
-durable_from : (built : State → Line → Bool) (s : State) (history : List Entry) (d : ℕ) → s.durable < s.epoch → d ≤ s.durable → IsLegalFrom built s history → (d ≤ (state_from s history).durable) × ((state_from s history).durable < (state_from s history).epoch)
+pub durable_from : (built : State → Line → Bool) (s : State) (history : List Entry) (d : ℕ) → s.durable < s.epoch → d ≤ s.durable → IsLegalFrom built s history → (d ≤ (state_from s history).durable) × ((state_from s history).durable < (state_from s history).epoch)
 unfolding IsLegalFrom state_from
 durable_from built s [] d ahead under legal = (under, ahead)
 durable_from built s (entry ∷ entries) d ahead under legal =

@@ -78,3 +78,4 @@ pub mod MoveCounts
 pub mod SealedFrames
 pub mod FloorMembers
 pub mod VersionMarks
+pub mod ClosedEpochs

@@ -12,3 +12,4 @@ pub mod Answered
 pub mod Areas
 pub mod Printed
 pub mod AskedLimits
+pub mod Acknowledged

@@ -4,6 +4,7 @@
 pub mod answers;
 pub mod batch_witnesses;
 pub mod bounds;
+pub mod closed_epochs;
 pub mod commits;
 pub mod epochs;
 pub mod floor;
