@@ -8,3 +8,5 @@ pub mod Cores
 pub mod Running
 pub mod Flushing
 pub mod Recoveries
+pub mod Survivals
+pub mod Refusals

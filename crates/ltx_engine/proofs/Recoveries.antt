@@ -27,7 +27,7 @@ use Rattle.ltx_engine.specs.Images.{RecoversAlike}
 byte_once : (a b : ℕ) (o : Option ℕ) → o ≡ Some a → o ≡ Some b → a ≡ b
 byte_once a b o is other = let same : Some a ≡ Some b = sym is ∙ other in cc
 
-blank_no_log : (bytes : List ℕ) → IsBlank bytes → IsLog bytes → ⊥
+pub blank_no_log : (bytes : List ℕ) → IsBlank bytes → IsLog bytes → ⊥
 blank_no_log bytes blank log = ⊎_elim
     (λ short. omega (arith, short, log.long))
     (λ more. ⊎_elim

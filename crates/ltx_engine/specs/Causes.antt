@@ -1,7 +1,7 @@
 -- Why an engine is not opened, and why a line is not answered.
-use Rattle.std.specs.Prelude.{◌≡◌, ℕ, true, false, List, Option, Some, None, IfSome}
+use Rattle.std.specs.Prelude.{◌≡◌, ◌⊎◌, ℕ, true, false, List, [], Option, Some, None, IfSome}
 use Rattle.ltx_model.specs.declared.commands.Line.{Line}
-use Rattle.ltx_model.specs.Contents.{IsForeign, IsFaultyAt}
+use Rattle.ltx_model.specs.Contents.{IsForeign, IsBlank, IsFaultyAt, IsLogOf, first_gate}
 use Rattle.ltx_model.specs.Recovery.{IsUnlawfulAt}
 use Rattle.ltx_outside.specs.Faults.{Rose}
 use Rattle.ltx_engine.specs.declared.fault.EngineOpenFault.{EngineOpenFault}
@@ -29,6 +29,26 @@ IsContentCause content opening.NotALog = IfSome content IsForeign
 IsContentCause content (opening.Damaged at event) = IfSome content (IsDamagedAt at event)
 IsContentCause content opening.DiskFault = Unit {0}
 IsContentCause content opening.NoMemory = Unit {0}
+
+-- A blank content became a log without frames.
+pub record IsMade (old new : Option (List ℕ)) : Type 0 where
+  pub blank : IfSome old IsBlank
+  pub made : IfSome new (λ bytes. IsLogOf bytes [] first_gate)
+
+-- What a refused opening leaves of the content, by its fault: what it was. Where memory was wanting, a blank one may be a log without
+-- frames. Of a fault of the disk nothing is said.
+abbrev pub LeavesContent : Option (List ℕ) → Option (List ℕ) → EngineOpenFault → Type 0
+LeavesContent old new opening.NotALog = new ≡ old
+LeavesContent old new (opening.Damaged at event) = new ≡ old
+LeavesContent old new opening.DiskFault = Unit {0}
+LeavesContent old new opening.NoMemory = (new ≡ old) ⊎ IsMade old new
+
+-- P holds after each fault but one of the disk
+abbrev pub UnlessDiskFault : Type 0 → EngineOpenFault → Type 0
+UnlessDiskFault P opening.NotALog = P
+UnlessDiskFault P (opening.Damaged at event) = P
+UnlessDiskFault P opening.DiskFault = Unit {0}
+UnlessDiskFault P opening.NoMemory = P
 
 -- The line asks a flush that must write a frame.
 pub record AsksWrite (engine : EngineView) (line : Line) : Type 0 where

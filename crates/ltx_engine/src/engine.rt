@@ -41,6 +41,17 @@ impl<'d, D: Disk> Engine<'d, D> {
         &self.core
     }
 
+    /// Gives the disk back as it is. It calls no device.
+    pub fn into_disk(self) -> &'d mut D
+        ensures name { result.ghost_name ≡ self.entry.log.loan }
+        ensures content { D.content result.now ≡ self.entry.log.content }
+        ensures crashes { D.crashes result.now ≡ self.entry.log.crashes }
+        ensures faults { D.faults result.now ≡ self.entry.log.faults }
+    {
+        let Engine { log, .. } = self;
+        log.into_disk()
+    }
+
     /// The committed transactions in the serial order.
     pub fn order(&self) -> Result<Vec<Tx>, NoMemory>
         ensures value { IfOk result (λ txs. (base : Base) (history : List Entry) → StandsFor self.now base history → txs.items ≡ order (state base history)) }

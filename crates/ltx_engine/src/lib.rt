@@ -2,6 +2,7 @@
 #![tactic(auto)]
 
 mod answer;
+pub mod crashes;
 mod engine;
 mod fault;
 mod flush;

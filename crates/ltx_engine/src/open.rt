@@ -9,7 +9,7 @@ ghost use Rattle.ltx_log.specs.Running.{IsLogTo, EachNow};
 ghost use Rattle.ltx_core.specs.Stands as core_stands;
 ghost use Rattle.ltx_engine.specs.Stands.{StandsFor};
 ghost use Rattle.ltx_engine.specs.Images.{RecoversAlike};
-ghost use Rattle.ltx_engine.specs.Causes.{IsOpenCause, IsContentCause};
+ghost use Rattle.ltx_engine.specs.Causes.{IsOpenCause, IsContentCause, LeavesContent, UnlessDiskFault};
 ghost use Rattle.ltx_engine.specs.Openings.{base_found, IsOpenedOn};
 
 use crate::engine::Engine;
@@ -52,12 +52,15 @@ fn core_over(alloc: Global, base: Recovered) -> Result<Core, NoMemory>
 
 /// Syncs the disk, reads the log on it or makes one where it is blank, and recovers what it holds. A fault of the disk that comes first
 /// goes before the others. Where nothing was pending, each image since the call began, also after a refusal, recovers what the disk's
-/// content recovered at entry.
+/// content recovered at entry. A refusal other than `DiskFault` leaves nothing pending and the content as it was, but that a log may
+/// have been made of a blank disk before memory was wanting.
 pub fn start<D: Disk>(alloc: Global, disk: &mut D) -> Result<Opening, EngineOpenFault>
     ensures recovered { IfOk result (λ o. IfSome (D.content disk.old) (λ bytes. IsRecovered bytes (base_found o))) }
     ensures log { IfOk result (λ o. IfSome (D.content disk.new) (λ bytes. IsLogTo bytes o.frames o.gate o.epoch)) }
     ensures since { IsStill (D.content disk.old) (D.crashes disk.old) → EachSince RecoversAlike (D.content disk.old) (D.crashes disk.old) (D.crashes disk.new) }
     ensures settled { OnOk result (IsStill (D.content disk.new) (D.crashes disk.new)) }
+    ensures left { IfErr result (LeavesContent (D.content disk.old) (D.content disk.new)) }
+    ensures left_still { IfErr result (UnlessDiskFault (IsStill (D.content disk.new) (D.crashes disk.new))) }
     ensures told { StaysTold (D.content disk.old) (D.content disk.new) }
     ensures untold { IfNone (D.content disk.old) (D.content disk.new ≡ None) }
     ensures secret { IfNone (D.crashes disk.old) (D.crashes disk.new ≡ None) }

@@ -3,6 +3,8 @@ pub mod Since
 pub mod Heads
 pub mod Standing
 pub mod Leading
+pub mod OneLog
+pub mod Joins
 pub mod Moments
 pub mod Makes
 pub mod Appends

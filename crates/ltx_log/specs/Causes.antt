@@ -26,3 +26,10 @@ IsContentCause content faults.NotALog = IfSome content IsForeign
 IsContentCause content (faults.Damaged at) = IfSome content (λ bytes. IsFaultyAt bytes at)
 IsContentCause content faults.DiskFault = Unit {0}
 IsContentCause content faults.NoMemory = Unit {0}
+
+-- P holds after each fault but one of the disk
+abbrev pub UnlessDiskFault : Type 0 → OpenFault → Type 0
+UnlessDiskFault P faults.NotALog = P
+UnlessDiskFault P (faults.Damaged at) = P
+UnlessDiskFault P faults.DiskFault = Unit {0}
+UnlessDiskFault P faults.NoMemory = P

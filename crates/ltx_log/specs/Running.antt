@@ -88,3 +88,13 @@ OpensTo old new = (new ≡ old) ⊎ (IsBlank old × IsFresh new)
 -- the bytes were blank, and there are no frames before the first gate, or they were a log of these
 abbrev pub IsOpenedAs : List ℕ → List Placed → ℕ → Type 0
 IsOpenedAs bytes frames gate = (IsBlank bytes × (frames ≡ []) × (gate ≡ first_gate)) ⊎ IsLogOf bytes frames gate
+
+-- A blank disk was made a log without frames.
+pub record IsMade (old new : Option (List ℕ)) (frames : List Placed) : Type 0 where
+  pub blank : IfSome old IsBlank
+  pub made : IfSome new (λ bytes. IsLogOf bytes [] first_gate)
+  pub none : frames ≡ []
+
+-- an opening that finds these frames leaves the content as it was, or makes a log of a blank one
+abbrev pub FindsOrMakes : Option (List ℕ) → Option (List ℕ) → List Placed → Type 0
+FindsOrMakes old new frames = (new ≡ old) ⊎ IsMade old new frames

@@ -125,6 +125,17 @@ impl<'d, D: Disk> Log<'d, D> {
         }
     }
 
+    /// Gives the disk back as it is. It calls no device.
+    pub fn into_disk(self) -> &'d mut D
+        ensures name { result.ghost_name ≡ self.entry.loan }
+        ensures content { D.content result.now ≡ self.entry.content }
+        ensures crashes { D.crashes result.now ≡ self.entry.crashes }
+        ensures faults { D.faults result.now ≡ self.entry.faults }
+    {
+        let Log { disk, .. } = self;
+        disk
+    }
+
     /// The place of the closed gate, in bytes from the log's start.
     pub fn gate(&self) -> u64
         ensures { result ≡ self.now.gate }

@@ -3,10 +3,10 @@
 ghost use Rattle.std.specs.Prelude.{◌≡◌, ◌≤◌, ◌<◌, length, IfOk, IfErr, OnOk, OnErr, IfSome, IfNone, Some, None};
 ghost use Rattle.ltx_model.specs.Contents.{epoch_after, frames_in};
 ghost use Rattle.ltx_outside.specs.Faults.{Rose};
-ghost use Rattle.ltx_log.specs.Causes.{IsCause};
+ghost use Rattle.ltx_log.specs.Causes.{IsCause, UnlessDiskFault};
 ghost use Rattle.ltx_log.specs.Images.{IsStill, EachSince, StaysTold};
 ghost use Rattle.ltx_log.specs.Readings.{IsFront, placed_in};
-ghost use Rattle.ltx_log.specs.Running.{IsLogTo, OpensTo, IsOpenedAs};
+ghost use Rattle.ltx_log.specs.Running.{IsLogTo, OpensTo, IsOpenedAs, FindsOrMakes};
 
 use crate::fault::OpenFault;
 use crate::front::{Kind, front_of, kind_of};
@@ -27,6 +27,9 @@ fn begin<D: Disk>(alloc: Global, disk: &mut D, size: u64, front: &[u8]) -> Resul
     ensures limit { IfOk result (λ course. course.gate < 1099511627776) }
     ensures since { EachSince OpensTo (D.content disk.old) (D.crashes disk.old) (D.crashes disk.new) }
     ensures settled { OnOk result (IsStill (D.content disk.new) (D.crashes disk.new)) }
+    ensures found { IfOk result (λ course. FindsOrMakes (D.content disk.old) (D.content disk.new) (placed_in course.frames.items)) }
+    ensures left { IfErr result (UnlessDiskFault (D.content disk.new ≡ D.content disk.old)) }
+    ensures left_still { IfErr result (UnlessDiskFault (IsStill (D.content disk.new) (D.crashes disk.new))) }
     ensures told { StaysTold (D.content disk.old) (D.content disk.new) }
     ensures untold { IfNone (D.content disk.old) (D.content disk.new ≡ None) }
     ensures secret { IfNone (D.crashes disk.old) (D.crashes disk.new ≡ None) }
@@ -45,7 +48,8 @@ fn begin<D: Disk>(alloc: Global, disk: &mut D, size: u64, front: &[u8]) -> Resul
 }
 
 /// Syncs a disk, and reads the log on it, or makes one where it is blank. Where nothing was pending, each image since the call
-/// began, also after a refusal, is the content at entry, or it is blank or a log without frames where that was blank.
+/// began, also after a refusal, is the content at entry, or it is blank or a log without frames where that was blank. A refusal
+/// other than `DiskFault` has written nothing, and leaves nothing pending.
 pub fn start<D: Disk>(alloc: Global, disk: &mut D) -> Result<Course, OpenFault>
     ensures log { IfOk result (λ course. IfSome (D.content disk.new) (λ bytes. IsLogTo bytes (placed_in course.frames.items) course.gate course.epoch)) }
     ensures read { IfOk result (λ course. IfSome (D.content disk.old) (λ bytes. IsOpenedAs bytes (placed_in course.frames.items) course.gate)) }
@@ -53,6 +57,9 @@ pub fn start<D: Disk>(alloc: Global, disk: &mut D) -> Result<Course, OpenFault>
     ensures limit { IfOk result (λ course. course.gate < 1099511627776) }
     ensures since { IsStill (D.content disk.old) (D.crashes disk.old) → EachSince OpensTo (D.content disk.old) (D.crashes disk.old) (D.crashes disk.new) }
     ensures settled { OnOk result (IsStill (D.content disk.new) (D.crashes disk.new)) }
+    ensures found { IfOk result (λ course. FindsOrMakes (D.content disk.old) (D.content disk.new) (placed_in course.frames.items)) }
+    ensures left { IfErr result (UnlessDiskFault (D.content disk.new ≡ D.content disk.old)) }
+    ensures left_still { IfErr result (UnlessDiskFault (IsStill (D.content disk.new) (D.crashes disk.new))) }
     ensures told { StaysTold (D.content disk.old) (D.content disk.new) }
     ensures untold { IfNone (D.content disk.old) (D.content disk.new ≡ None) }
     ensures secret { IfNone (D.crashes disk.old) (D.crashes disk.new ≡ None) }
